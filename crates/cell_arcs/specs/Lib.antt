@@ -1,0 +1,6 @@
+pub mod Shape
+pub mod Steps
+pub mod Library
+pub mod IsLibrary
+pub mod Firsts
+pub mod Samples

@@ -1,0 +1,5 @@
+pub mod CountLemmas
+pub mod Reading
+pub mod Shelves
+pub mod ShelfSteps
+pub mod Sinks

@@ -1,0 +1,58 @@
+// Files by name, as a run sees them.
+ghost use Rattle.std.specs.Prelude.{◌≡◌, ℕ, List, IfOk, IsErrOf};
+ghost use Rattle.std.specs.declared.option.Option.{Option};
+ghost use Rattle.cyc_port.specs.declared.shelf.ShelfFault.TheVariants.{Memory};
+ghost use Rattle.cyc_port.specs.Counts.{Rose, NoneFell};
+ghost use Rattle.cyc_port.specs.Files.{Files, IsFile, IsLongFile};
+
+use cyc_text::Text;
+use std::alloc::{AllocError, Global};
+
+/// The most bytes of a file, 16 MiB.
+pub const FILE_LIMIT: usize = 16_777_216;
+
+/// Why a file was not read.
+#[derive(Clone, Copy, Debug, PartialEq, Eq)]
+pub enum ShelfFault {
+    /// It is not there, or a read of it failed.
+    Failed,
+    /// It has more than 16,777,216 bytes.
+    TooLong,
+    /// Want of memory.
+    Memory,
+}
+
+impl From<AllocError> for ShelfFault {
+    ghost from_gives = { λ _ e. e ≡ Memory };
+
+    fn from(_: AllocError) -> Self {
+        ShelfFault::Memory
+    }
+}
+
+/// Files by name. Where it tells its files, they never change. No count ever falls.
+pub trait Shelf {
+    // The files by name, where they are told.
+    ghost files: { Self → Option Files };
+
+    // How often a read of the name has failed.
+    ghost faults: { Self → List ℕ → ℕ };
+
+    // How often the name's file was too long.
+    ghost long_reads: { Self → List ℕ → ℕ };
+
+    /// The whole file of that name, of at most 16,777,216 bytes.
+    ///
+    /// # Errors
+    /// `Failed` comes only where the name's count of faults rose in this call, `TooLong` only where its count of long reads rose; over
+    /// told files `TooLong` means that the file is there and has more than 16,777,216 bytes. `Memory` is want of memory.
+    fn read_all(&mut self, alloc: Global, name: &str) -> Result<Text, ShelfFault>
+        ensures files { files self.new ≡ files self.old }
+        ensures counts { NoneFell (faults self.old) (faults self.new) }
+        ensures long_counts { NoneFell (long_reads self.old) (long_reads self.new) }
+
+        ensures text { IfOk result (IsFile (files self.old) name.now) }
+        ensures failed { IsErrOf result ShelfFault.Failed → Rose (faults self.old name.now) (faults self.new name.now) }
+        ensures too_long { IsErrOf result ShelfFault.TooLong → Rose (long_reads self.old name.now) (long_reads self.new name.now) }
+        ensures is_long { IsErrOf result ShelfFault.TooLong → IsLongFile (files self.old) name.now };
+}

@@ -1,0 +1,5 @@
+pub mod Name
+pub mod Number
+pub mod ReadBack
+pub mod Spans
+pub mod Words

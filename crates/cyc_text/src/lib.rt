@@ -1,0 +1,18 @@
+//! Texts as lists of bytes; lines, words, names and numbers in them.
+#![tactic(auto)]
+
+mod laws;
+mod limits;
+mod names;
+mod numbers;
+mod spans;
+#[cfg(test)]
+mod tests;
+mod text;
+
+pub use laws::{lines_are_read_back, words_are_plain, words_are_read_back};
+pub use limits::Limit;
+pub use names::is_name;
+pub use numbers::read_number;
+pub use spans::{LineSpan, WordSpan, next_line, next_word};
+pub use text::Text;

@@ -1,0 +1,33 @@
+//! The program: real files, standard output, and the words of the command line.
+#![tactic(auto)]
+
+use cyc_port::{FileShelf, OpenGate, StdoutSink};
+use engine::cyclone;
+use std::alloc::AllocError;
+use std::env;
+use std::process::ExitCode;
+use std::rt::Env;
+
+/// The status for want of memory.
+const NO_MEMORY: u8 = 8;
+
+// The words after the program's name. Words that are no text count as no words, which are refused.
+fn words<R: Env + AllocGlobal>(rt: &R) -> Result<Vec<String>, AllocError> {
+    let mut words = Vec::new(rt.alloc());
+    if let Ok(all) = env::args(rt) {
+        for word in all.skip(1) {
+            words.push(word)?;
+        }
+    }
+    Ok(words)
+}
+
+fn main(rt: HostRuntime) -> ExitCode {
+    let Ok(words) = words(&rt) else {
+        return ExitCode::from(NO_MEMORY);
+    };
+    let mut shelf = FileShelf::new(&rt);
+    let mut sink = StdoutSink::new(rt.stdout());
+    let outcome = cyclone(&rt, rt.alloc(), &words, &mut shelf, &mut sink, &OpenGate);
+    ExitCode::from(outcome.status)
+}

@@ -1,0 +1,5 @@
+pub mod Positions
+pub mod Steps
+pub mod StatementSteps
+pub mod Judging
+pub mod Completing
