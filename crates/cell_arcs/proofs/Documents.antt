@@ -1,5 +1,5 @@
 -- What the reader of documents says, beside the definition.
-use Rattle.std.proofs.Common.{◌≡◌, ℕ, ◌≤◌, ◌<◌, List, [], ◌∷◌, length, Bool, true, false, Some, None, Ok, Err, Global, String, string_bytes, refl, ap, sym, ◌∙◌, arith, if◌then◌else◌, nat_cmp, Less, All, nat_lt, subst}
+use Rattle.std.proofs.Common.{◌≡◌, ℕ, ◌≤◌, ◌<◌, List, [], ◌∷◌, length, Bool, true, false, Some, None, Ok, Err, Global, String, string_bytes, refl, ap, sym, ◌∙◌, arith, if◌then◌else◌, nat_cmp, Less, nat_lt, subst}
 use Rattle.std.specs.List.{AllByRecursion}
 use Rattle.std.specs.List.Sorted.{IsStrictlySortedBy}
 use Rattle.std.specs.Map.{keys_of}

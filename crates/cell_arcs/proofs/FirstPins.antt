@@ -1,5 +1,5 @@
 -- The first pin that is no name, the first name that stands before, and the first repeated source.
-use Rattle.std.proofs.Common.{◌≡◌, ℕ, ◌+◌, List, [], ◌∷◌, ◌++◌, length, map, Bool, true, false, not, if◌then◌else◌, Option, Some, None, Result, Ok, Err, position, All, refl, sym, ap, subst, ◌∙◌, append_assoc}
+use Rattle.std.proofs.Common.{◌≡◌, ℕ, ◌+◌, List, [], ◌∷◌, ◌++◌, length, Bool, true, false, not, if◌then◌else◌, Option, Some, None, Result, Ok, Err, position, All, refl, sym, ap, subst, ◌∙◌, append_assoc}
 use Rattle.std.specs.Prelude.{MatchOption, MatchResult}
 use Rattle.std.specs.List.{IsDistinct, list_any, position_from}
 use Rattle.std.specs.Str.{bytes_eq}
@@ -15,7 +15,7 @@ use Rattle.cell_arcs.specs.declared.faults.LibraryFault.{LibraryFault}
 use Rattle.cell_arcs.specs.declared.faults.LibraryFault.TheVariants.{UnknownPin, RepeatedArc, BadSense, BadDelay}
 use Rattle.cell_arcs.specs.Shape.{ArcShape}
 use Rattle.cell_arcs.specs.Steps.{◌>>=◌, or_fault}
-use Rattle.cell_arcs.specs.Library.{bad_name, repeated_pin, repeat_after, sense_of, delay_of, arc_of, arcs_after, arcs_of}
+use Rattle.cell_arcs.specs.Library.{repeat_after, sense_of, delay_of, arc_of, arcs_after}
 use Rattle.cell_arcs.specs.Firsts.{IsFirstBadName, IsFirstRepeat, sources, FindsFirstBadName, FindsFirstRepeat, FindsFirstRepeatedSource}
 use Rattle.cell_arcs.proofs.Names.{same_bytes, list_any-map}
 

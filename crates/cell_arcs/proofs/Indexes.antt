@@ -1,5 +1,5 @@
 -- The names of the cells as the keys of a set.
-use Rattle.std.proofs.Common.{◌≡◌, ℕ, ◌+◌, ◌<◌, List, [], ◌∷◌, length, map, take, get_or, Bool, false, Vec, Global, position, Less, Option, Some, None, All, true, true≢false, refl, sym, ap, ◌∙◌, arith, nat_cmp}
+use Rattle.std.proofs.Common.{◌≡◌, ℕ, ◌+◌, ◌<◌, List, [], ◌∷◌, length, map, take, get_or, false, Vec, Global, position, Less, Option, Some, None, All, true, true≢false, refl, sym, ap, ◌∙◌, arith, nat_cmp}
 use Rattle.std.specs.Prelude.{IfSome, IfNone, IsSomeAnd, slice_get, ◌≢◌}
 use Rattle.std.specs.List.{list_any}
 use Rattle.std.proofs.lemmas.Option.{slice_get-get_or}

@@ -1,5 +1,5 @@
 -- Names in lists: which are equal, and where one stands.
-use Rattle.std.proofs.Common.{◌≡◌, ℕ, ◌+◌, ◌<◌, List, [], ◌∷◌, ◌++◌, length, map, get_or, Bool, true, false, ◌||◌, Some, None, position, refl, sym, ap, ◌∙◌, All, if◌then◌else◌}
+use Rattle.std.proofs.Common.{◌≡◌, ℕ, ◌+◌, List, [], ◌∷◌, map, Bool, true, false, Some, None, position, refl, sym, ◌∙◌, All, if◌then◌else◌}
 use Rattle.std.specs.List.{list_any, position_or_len, position_from}
 use Rattle.std.specs.Str.{bytes_eq}
 use Rattle.std.specs.Cmp.Lexicographic.{bytes_decides}

@@ -1,9 +1,7 @@
 -- What is left of a list that is read one by one, behind what was read.
 use Rattle.std.proofs.Common.{◌≡◌, List, [], ◌∷◌, ◌++◌, Option, Some, None, Result, Ok, Err, refl, ap, sym, append_assoc}
 use Rattle.std.proofs.lemmas.List.{append-nil}
-use Rattle.toml.specs.Data.{Data, Items, item}
 use Rattle.cell_arcs.specs.Steps.{◌>>=◌, ◌>>?◌}
-use Rattle.cell_arcs.specs.Library.{each}
 use Rattle.cell_arcs.specs.declared.faults.LibraryFault.{LibraryFault}
 
 -- the list with the elements done before it, unless it was refused

@@ -3,15 +3,14 @@ use Rattle.std.proofs.Common.{◌≡◌, ℕ, ◌<◌, ◌≤◌, Bool, true, fa
 use Rattle.std.proofs.lemmas.Bool.{cases_Bool, cases_lt, lt-ltb, le-ltb}
 use Rattle.std.specs.declared.option.Option.{Option}
 use Rattle.std.specs.declared.result.Result.{Result}
-use Rattle.std.specs.Prelude.{nat_lt, ◌==◌, is_some, IsErrAnd, IsSomeAnd, IfOk}
+use Rattle.std.specs.Prelude.{◌==◌, is_some, IsErrAnd, IsSomeAnd, IfOk}
 use Rattle.std.specs.Option.{option_map}
 use Rattle.std.specs.List.{list_any}
 use Rattle.std.specs.Ordering.{nat_cmp}
 use Rattle.std.specs.Cmp.Lexicographic.{slice_cmp, texts_ties, nat_list_cmp_total}
 use Rattle.std.specs.FinMap as finite
-use Rattle.std.specs.Str.{bytes_eq}
 use Rattle.cyc_port.specs.Files.{Files, IsFile, IsLongFile, file_limit}
-use Rattle.cyc_port.specs.Counts.{raised, Rose, NoneFell}
+use Rattle.cyc_port.specs.Counts.{raised, Rose}
 use Rattle.cyc_port.specs.Rows.{has_name, files_of, count_of, file_of, change_first, with_fault, with_long}
 use Rattle.cyc_port.specs.MemoryShelf.{ShelfState, answer_from, answer_of, Answers, shelf_after}
 use Rattle.cyc_port.specs.declared.memory.NamedFile.{NamedFile}

@@ -1,23 +1,11 @@
 -- The first file of a name in a list, and what a read leaves.
-use Rattle.std.proofs.Common.{◌≡◌, ℕ, ◌<◌, ◌≤◌, true, false, List, [], ◌∷◌, length, get_or, set, map, refl, ap, sym, ◌∙◌, arith, zero, suc, inl, inr, Some, None, Ok, Err}
-use Rattle.std.proofs.lemmas.Bool.{cases_Bool, cases_lt, lt-ltb, ltb-true, ltb-false}
+use Rattle.std.proofs.Common.{◌≡◌, ℕ, ◌<◌, ◌≤◌, true, false, List, [], ◌∷◌, length, get_or, set, refl, ap, sym, arith, zero, suc, inl, inr, Some, None}
+use Rattle.std.proofs.lemmas.Bool.{cases_Bool, cases_lt, lt-ltb}
 use Rattle.std.proofs.lemmas.List.Quantifiers.{position-Some}
-use Rattle.std.specs.declared.option.Option.{Option}
-use Rattle.std.specs.declared.result.Result.{Result}
-use Rattle.std.specs.Prelude.{nat_lt, ◌==◌, is_some, IsSomeAnd}
-use Rattle.std.specs.Option.{option_map}
-use Rattle.std.specs.List.{position, position_or_len, list_any}
-use Rattle.std.specs.Ordering.{nat_cmp}
-use Rattle.std.specs.Cmp.Lexicographic.{slice_cmp, texts_ties, nat_list_cmp_total}
+use Rattle.std.specs.List.{position, position_or_len}
 use Rattle.std.specs.FinMap as finite
-use Rattle.std.specs.Str.{bytes_eq}
-use Rattle.cyc_port.specs.Files.{Files, IsFile, IsLongFile, file_limit}
-use Rattle.cyc_port.specs.Counts.{raised, Rose, NoneFell}
-use Rattle.cyc_port.specs.Rows.{has_name, files_of, count_of, file_of, change_first, with_fault, with_long}
-use Rattle.cyc_port.specs.MemoryShelf.{ShelfState, answer_from, answer_of, Answers, shelf_after}
+use Rattle.cyc_port.specs.Rows.{has_name, file_of, change_first}
 use Rattle.cyc_port.specs.declared.memory.NamedFile.{NamedFile}
-use Rattle.cyc_port.specs.declared.shelf.ShelfFault.{ShelfFault}
-use Rattle.cyc_port.specs.declared.shelf.ShelfFault.TheVariants.{Failed, TooLong, Memory}
 
 -- the place of the first file of a name
 abbrev pub FirstAt : List ℕ → NamedFile → List NamedFile → ℕ → Type 0

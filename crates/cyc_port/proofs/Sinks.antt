@@ -1,12 +1,12 @@
 -- What a write to a memory sink leaves.
-use Rattle.std.proofs.Common.{◌≡◌, ℕ, ◌<◌, ◌≤◌, true, false, List, [], ◌∷◌, ◌++◌, ◌||◌, length, take, min, refl, ap, sym, ◌∙◌, arith, inl, inr, Ok, Err, Some}
+use Rattle.std.proofs.Common.{◌≡◌, ℕ, ◌≤◌, true, false, List, [], ◌∷◌, ◌++◌, ◌||◌, length, min, refl, ap, sym, arith, inl, inr, Ok, Err, Some}
 use Rattle.std.proofs.lemmas.Bool.{cases_Bool, or_parts, ltb-false}
 use Rattle.std.proofs.lemmas.List.{take_all}
 use Rattle.std.proofs.Common.{append-nil}
 use Rattle.std.specs.Prelude.{◌==◌, nat_lt, is_err, IsOk, OnOk, OnErr}
 use Rattle.std.specs.declared.result.Result.{Result}
 use Rattle.std.specs.Io.KnownBytes.{Appends}
-use Rattle.cyc_port.specs.Counts.{raised, Rose}
+use Rattle.cyc_port.specs.Counts.{Rose}
 use Rattle.cyc_port.specs.Written.{AppendsFront}
 use Rattle.cyc_port.specs.declared.sink.SinkFailed.{SinkFailed}
 use Rattle.cyc_port.specs.declared.sink_stop.SinkStop.{SinkStop}

@@ -1,7 +1,7 @@
 use Rattle.std.proofs.Common.{◌≡◌, Ok, ◌∙◌}
 use Rattle.cell_arcs.specs.Library.{cells_from}
 use Rattle.cell_arcs.proofs.Documents.{cells_of_table}
-use Rattle.cell_arcs.proofs.Prefixes.{behind, behind_all}
+use Rattle.cell_arcs.proofs.Prefixes.{behind_all}
 use Rattle.toml.specs.View.{members_view}
 use Rattle.cell_arcs.proofs.reading.cells_of.Goals as goal
 

@@ -1,8 +1,8 @@
-use Rattle.std.proofs.Common.{◌≡◌, ℕ, get_or, arith, None, refl, ap, sym, ◌∙◌, is_some, set}
+use Rattle.std.proofs.Common.{◌≡◌, ℕ, get_or, arith, ap, sym, ◌∙◌, is_some, set}
 use Rattle.std.specs.declared.option.Option.{Option}
 use Rattle.cyc_port.specs.Counts.{raised}
 use Rattle.cyc_port.proofs.CountLemmas.{raised-is}
-use Rattle.cyc_port.specs.Rows.{file_of, with_fault}
+use Rattle.cyc_port.specs.Rows.{with_fault}
 use Rattle.cyc_port.specs.declared.memory.NamedFile.{NamedFile}
 use Rattle.cyc_port.proofs.Shelves.{file_of-none, file_of-found, change_first-none, change_first-found}
 use Rattle.cyc_port.proofs.memory.raise_faults.Goals as goal

@@ -1,9 +1,8 @@
-use Rattle.std.proofs.Common.{◌≡◌, Some, None, List, ℕ, length, false, sym, ap, ◌∙◌}
+use Rattle.std.proofs.Common.{◌≡◌, Some, false, ◌∙◌}
 use Rattle.std.specs.Prelude.{◌==◌}
 use Rattle.std.specs.List.{list_any}
 use Rattle.cyc_port.specs.Rows.{file_of}
 use Rattle.cyc_port.specs.MemoryShelf.{ShelfState}
-use Rattle.cyc_port.specs.declared.memory.NamedFile.{NamedFile}
 use Rattle.cyc_port.specs.declared.shelf.ShelfFault.TheVariants.{Failed, TooLong}
 use Rattle.cyc_port.proofs.Shelves.{absent_file, found_file}
 use Rattle.cyc_port.proofs.ShelfSteps.{unlisted_from, answer-none, answer-long, answer-ok, answers-err, answers-ok, answers-memory}

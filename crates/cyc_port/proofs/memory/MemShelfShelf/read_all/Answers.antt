@@ -1,6 +1,6 @@
-use Rattle.std.proofs.Common.{◌≡◌, Some, List, ℕ, ap, sym, ◌∙◌}
+use Rattle.std.proofs.Common.{◌≡◌, Some, ap}
 use Rattle.cyc_port.specs.Files.{Files}
-use Rattle.cyc_port.specs.MemoryShelf.{ShelfState, Answers, answer_of, shelf_after}
+use Rattle.cyc_port.specs.MemoryShelf.{Answers, answer_of, shelf_after}
 use Rattle.cyc_port.proofs.ShelfSteps.{files_stay, faults_stay, long_stay, failed_rose, long_rose, long_file, whole_file}
 use Rattle.cyc_port.proofs.memory.MemShelfShelf.read_all.Goals as goal
 

@@ -1,0 +1,3 @@
+pub mod Trees
+pub mod Raises
+pub mod Lowest

@@ -1,0 +1,21 @@
+use Rattle.std.proofs.Common.{arith}
+use Rattle.cycle_ratio.proofs.Lowest.{no_gain_lowest}
+use Rattle.cycle_ratio.proofs.search.found_of.Goals as goal
+
+pub returns-clause-greatest : goal.returns-clause-greatest
+returns-clause-greatest c =
+    let d = rw c.list.ensures at c.sums_of-sums.ensures.delay in
+    let o = rw c.list.ensures at c.sums_of-sums.ensures.offset in
+    no_gain_lowest _ _ _ _ _ (c.requires.live _ c.requires.cycle.is_cycle) (rw (d, o) at c.of-period.ensures.equal)
+
+pub returns-clause-top : goal.returns-clause-top
+returns-clause-top c =
+    let small = c.sums_of-sums.ensures.small_delay in
+    let least = c.of-period.ensures.top in
+    omega arith
+
+pub returns-clause-bottom : goal.returns-clause-bottom
+returns-clause-bottom c =
+    let small = c.sums_of-sums.ensures.small_offset in
+    let least = c.of-period.ensures.bottom in
+    omega arith

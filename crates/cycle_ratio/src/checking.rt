@@ -1,0 +1,82 @@
+ghost use Rattle.std.specs.Prelude.{◌≡◌, ◌<◌, ◌≤◌, All, IfSome, true, length};
+ghost use Rattle.cyc_num.specs.Within.{LiesWithin};
+ghost use Rattle.rule_system.specs.Weights.{HasNoGain};
+ghost use Rattle.cycle_ratio.specs.Cycles.{IsShortCycle};
+ghost use Rattle.rule_system.specs.Walks.{IsCycle, IsWalk};
+
+use cyc_num::Ratio;
+use potentials::feasible;
+use rule_system::laws::feasible_numbers_bound_cycles;
+use rule_system::{Rule, System};
+
+/// The farthest that feasible numbers may lie from 0.
+const WIDEST: i64 = 40_000_000_000_000_000;
+
+/// Whether rule numbers make a cycle of at most as many rules as there are events.
+pub fn is_short_cycle(system: &System, walk: &[u32]) -> bool
+    ensures { result ≡ true → IsShortCycle system.now.events system.now.rules walk.now }
+{
+    walk.len() <= system.events() as usize && is_cycle(system.rules(), walk)
+}
+
+/// Whether rule numbers make a cycle.
+fn is_cycle(rules: &[Rule], walk: &[u32]) -> bool
+    ensures { result ≡ true → IsCycle rules.now walk.now }
+{
+    let Some(first) = walk.first() else {
+        return false;
+    };
+    let Some(rule) = rules.get(*first as usize) else {
+        return false;
+    };
+    end_of(rules, rule.source, walk) == Some(rule.source)
+}
+
+/// Where rule numbers lead to from an event, if they make a walk.
+fn end_of(rules: &[Rule], start: u32, walk: &[u32]) -> Option<u32>
+    ensures { IfSome result (λ end. IsWalk rules.now start walk.now end) }
+{
+    let mut at = start;
+    'steps: for number in walk {
+        match rules.get(*number as usize) {
+            Some(rule) if rule.source == at => at = rule.target,
+            _ => return None,
+        }
+    }
+    Some(at)
+}
+
+/// Whether numbers, one for each event, show that no cycle has a greater ratio than the period.
+pub fn shows_no_gain(system: &System, period: Ratio, numbers: &[i64]) -> bool
+    requires top { period.top ≤ 32768000000 }
+    requires bottom { period.bottom ≤ 491520 }
+    ensures { result ≡ true → HasNoGain period.top period.bottom system.now.rules }
+{
+    feasible_numbers_bound_cycles();
+    if numbers.len() != system.events() as usize {
+        return false;
+    }
+    if !are_within(numbers) {
+        return false;
+    }
+    feasible(system, period, numbers)
+}
+
+/// Whether the numbers are in the range that feasible numbers may have.
+fn are_within(numbers: &[i64]) -> bool
+    ensures { result ≡ true → All (LiesWithin 40000000000000000) numbers.now }
+{
+    'numbers: for number in numbers {
+        if !is_within(*number) {
+            return false;
+        }
+    }
+    true
+}
+
+/// Whether the number is in the range that feasible numbers may have.
+fn is_within(number: i64) -> bool
+    ensures { result ≡ true → LiesWithin 40000000000000000 number }
+{
+    -WIDEST <= number && number <= WIDEST
+}

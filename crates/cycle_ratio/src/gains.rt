@@ -1,0 +1,142 @@
+ghost use Rattle.std.specs.Prelude.{◌≡◌, ◌<◌, ◌≤◌, ◌==◌, ℕ, Bool, true, false, IfOk, IfSome, IfNone, length, sum};
+ghost use Rattle.rule_system.specs.Bounds.{IsRule};
+ghost use Rattle.rule_system.specs.Rules.{target_of};
+ghost use Rattle.rule_system.specs.Weights.{HasNoGain, Gains};
+ghost use Rattle.first_cycle.specs.Levels.{kept_by};
+ghost use Rattle.cycle_ratio.specs.Cycles.{IsShortCycle};
+ghost use Rattle.cycle_ratio.specs.Trees.{AreAtMost, IsTree, adopted, is_chosen, is_parent, is_raising, raised};
+
+use first_cycle::first_cycle;
+use rule_system::{Cycle, Rule, System};
+use std::alloc::{AllocError, Global};
+
+/// A cycle of a greater ratio than `top / bottom`, or none where there is none.
+///
+/// Rounds of relaxation from 0 with a parent rule for each event (Bellman 1958, Moore 1959): the numbers settle where no
+/// cycle gains, and else the parents close a cycle, which gains. At most as many rounds as events in practice, each in time
+/// linear in the rules.
+pub fn gain(
+    alloc: Global,
+    system: &System,
+    top: u64,
+    bottom: u64,
+) -> Result<Option<Cycle>, AllocError>
+    requires top { top ≤ 32768000000 }
+    requires bottom { bottom ≤ 491520 }
+    ensures cycle { IfOk result (λ found. IfSome found (λ cycle. IsShortCycle system.now.events system.now.rules cycle)) }
+    ensures gains { IfOk result (λ found. IfSome found (λ cycle. Gains top bottom system.now.rules cycle)) }
+    ensures none { IfOk result (λ found. IfNone found (HasNoGain top bottom system.now.rules)) }
+{
+    let events = system.events() as usize;
+    let mut numbers = vec![in alloc; 0; events]?;
+    let mut parents = vec![in alloc; None; events]?;
+    climb(alloc, system, top, bottom, &mut numbers, &mut parents)
+}
+
+/// Relaxes in rounds until the numbers settle or the parents close a cycle.
+fn climb(
+    alloc: Global,
+    system: &System,
+    top: u64,
+    bottom: u64,
+    numbers: &mut [u64],
+    parents: &mut [Option<u32>],
+) -> Result<Option<Cycle>, AllocError>
+    requires top { top ≤ 32768000000 }
+    requires bottom { bottom ≤ 491520 }
+    requires tree { IsTree top bottom system.now.events system.now.rules numbers.old parents.old }
+    requires small { AreAtMost 20000000000000000 numbers.old }
+    ensures cycle { IfOk result (λ found. IfSome found (λ cycle. IsShortCycle system.now.events system.now.rules cycle)) }
+    ensures gains { IfOk result (λ found. IfSome found (λ cycle. Gains top bottom system.now.rules cycle)) }
+    ensures none { IfOk result (λ found. IfNone found (HasNoGain top bottom system.now.rules)) }
+{
+    'rounds: while round(system, top, bottom, numbers, parents) {
+        let chosen = chosen_rules(alloc, system.rules(), parents)?;
+        if let Some(cycle) = first_cycle(alloc, system, &chosen)? {
+            return Ok(Some(cycle));
+        }
+    }
+    Ok(None)
+}
+
+/// For each rule whether it is the parent of its target.
+fn chosen_rules(
+    alloc: Global,
+    rules: &[Rule],
+    parents: &[Option<u32>],
+) -> Result<Vec<bool>, AllocError>
+    requires count { length rules.now ≤ 131072 }
+    requires targets { (n : ℕ) → n < length rules.now → target_of rules.now n < length parents.now }
+    ensures count { IfOk result (λ chosen. length chosen.items ≡ length rules.now) }
+    ensures chosen { IfOk result (λ chosen. (n : ℕ) → n < length rules.now → kept_by chosen.items n ≡ is_chosen rules.now parents.now n) }
+{
+    let mut chosen = Vec::with_capacity(alloc, rules.len())?;
+    'rules: for (number, rule) in rules.iter().enumerate() {
+        chosen.push(is_parent_rule(parents[rule.target as usize], number as u32))?;
+    }
+    Ok(chosen)
+}
+
+/// Whether the parent is the rule of a number.
+fn is_parent_rule(parent: Option<u32>, number: u32) -> bool
+    ensures { result ≡ is_parent parent number }
+{
+    match parent {
+        Some(at) => at == number,
+        None => false,
+    }
+}
+
+/// Relaxes each rule once, and answers whether one raised a number.
+fn round(
+    system: &System,
+    top: u64,
+    bottom: u64,
+    numbers: &mut [u64],
+    parents: &mut [Option<u32>],
+) -> bool
+    requires top { top ≤ 32768000000 }
+    requires bottom { bottom ≤ 491520 }
+    requires tree { IsTree top bottom system.now.events system.now.rules numbers.old parents.old }
+    requires small { AreAtMost 20000000000000000 numbers.old }
+    ensures tree { IsTree top bottom system.now.events system.now.rules numbers.new parents.new }
+    ensures rose { result ≡ true → sum numbers.old < sum numbers.new }
+    ensures settled { result ≡ false → HasNoGain top bottom system.now.rules }
+{
+    let mut rose = false;
+    'rules: for (number, rule) in system.rules().iter().enumerate() {
+        if raise(*rule, number as u32, top, bottom, numbers, parents) {
+            rose = true;
+        }
+    }
+    rose
+}
+
+/// Raises the number of the rule's target to what the rule leads to, where that is more, and answers whether it is.
+fn raise(
+    rule: Rule,
+    number: u32,
+    top: u64,
+    bottom: u64,
+    numbers: &mut [u64],
+    parents: &mut [Option<u32>],
+) -> bool
+    requires top { top ≤ 32768000000 }
+    requires bottom { bottom ≤ 491520 }
+    requires rule { IsRule (length numbers.old) rule }
+    requires parents { length parents.old ≡ length numbers.old }
+    requires small { AreAtMost 90000000000000000 numbers.old }
+    ensures numbers { numbers.new ≡ raised top bottom rule numbers.old }
+    ensures parents { parents.new ≡ adopted top bottom rule number numbers.old parents.old }
+    ensures result { result ≡ is_raising top bottom rule numbers.old }
+{
+    let offered = numbers[rule.source as usize] + bottom * rule.delay as u64;
+    let cost = top * rule.offset as u64;
+    let target = rule.target as usize;
+    if numbers[target] + cost >= offered {
+        return false;
+    }
+    numbers[target] = offered - cost;
+    parents[target] = Some(number);
+    true
+}

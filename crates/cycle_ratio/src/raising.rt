@@ -1,0 +1,75 @@
+ghost use Rattle.std.specs.Prelude.{◌≡◌, ◌<◌, ◌≤◌, IfOk, All, length};
+ghost use Rattle.rule_system.specs.Bounds.{IsSystem};
+ghost use Rattle.rule_system.specs.Rules.{delay_sum, offset_sum};
+ghost use Rattle.rule_system.specs.Walks.{IsLive};
+ghost use Rattle.rule_system.specs.Weights.{HasNoGain};
+ghost use Rattle.cycle_ratio.specs.Cycles.{IsShortCycle};
+
+use crate::gains::gain;
+use rule_system::{Cycle, Rule, System};
+use std::alloc::{AllocError, Global};
+
+/// Goes from a cycle to cycles of greater and greater ratios, and answers one of the greatest.
+pub fn raise_cycle(alloc: Global, system: &System, first: Cycle) -> Result<Cycle, AllocError>
+    requires live { IsLive system.now.rules }
+    requires cycle { IsShortCycle system.now.events system.now.rules first }
+    ensures cycle { IfOk result (λ cycle. IsShortCycle system.now.events system.now.rules cycle) }
+    ensures greatest { IfOk result (λ cycle. HasNoGain (delay_sum system.now.rules cycle) (offset_sum system.now.rules cycle) system.now.rules) }
+{
+    let mut cycle = first;
+    'raises: loop {
+        let sums = sums_of(system, cycle.list());
+        match gain(alloc, system, sums.delay, sums.offset)? {
+            None => return Ok(cycle),
+            Some(next) => cycle = next,
+        }
+    }
+}
+
+/// The delay and the offset of a cycle.
+#[derive(Clone, Copy)]
+pub struct Sums {
+    pub delay: u64,
+    pub offset: u64,
+}
+
+/// The delay and the offset of a cycle of at most as many rules as there are events.
+pub fn sums_of(system: &System, cycle: &[u32]) -> Sums
+    requires { IsShortCycle system.now.events system.now.rules cycle.now }
+    ensures delay { result.delay ≡ delay_sum system.now.rules cycle.now }
+    ensures offset { result.offset ≡ offset_sum system.now.rules cycle.now }
+    ensures system { IsSystem system.now.events system.now.rules }
+    ensures small_delay { result.delay ≤ 32768000000 }
+    ensures small_offset { result.offset ≤ 491520 }
+{
+    let rules = system.rules();
+    let delay = delay_of(rules, cycle);
+    let offset = offset_of(rules, cycle);
+    Sums { delay, offset }
+}
+
+/// The sum of the delays along a list of rule numbers.
+fn delay_of(rules: &[Rule], walk: &[u32]) -> u64
+    requires within { All (λ n. n < length rules.now) walk.now }
+    requires small { delay_sum rules.now walk.now ≤ 32768000000 }
+    ensures { result ≡ delay_sum rules.now walk.now }
+{
+    let mut sum = 0;
+    'numbers: for number in walk {
+        sum += rules[*number as usize].delay as u64;
+    }
+    sum
+}
+
+/// The sum of the offsets along a list of rule numbers.
+fn offset_of(rules: &[Rule], walk: &[u32]) -> u64
+    requires within { All (λ n. n < length rules.now) walk.now }
+    requires small { offset_sum rules.now walk.now ≤ 491520 }
+    ensures { result ≡ offset_sum rules.now walk.now }
+{
+    let mut sum = 0;
+    'numbers: for number in walk {
+        sum += rules[*number as usize].offset as u64;
+    }
+    sum
+}

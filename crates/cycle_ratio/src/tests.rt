@@ -1,0 +1,172 @@
+ghost use Rattle.std.specs.Prelude.{◌≡◌, ◌<◌, ◌≤◌, ℕ, true, IfOk, IfSome, All, length};
+ghost use Rattle.rule_system.specs.Bounds.{IsSystem};
+ghost use Rattle.rule_system.specs.Rules.{rule_at};
+ghost use Rattle.rule_system.specs.Walks.{IsLive};
+ghost use Rattle.first_cycle.specs.Levels.{kept_by};
+ghost use Rattle.cycle_ratio.specs.Cycles.{HasCycle};
+
+use crate::greatest;
+use first_cycle::first_cycle;
+use rule_system::{Rule, System};
+use std::alloc::{AllocError, Global};
+use std::test::Fail;
+
+/// Source, target, delay, offset.
+type Row = (u32, u32, u32, u32);
+
+/// The rules of some rows, if they are within the limits.
+fn rules_of(alloc: Global, events: u32, rows: &[Row]) -> Result<Option<Vec<Rule>>, AllocError>
+    ensures { IfOk result (λ found. IfSome found (λ rules. IsSystem events rules.items)) }
+{
+    if events > 32_768 || rows.len() > 131_072 {
+        return Ok(None);
+    }
+    let mut rules = Vec::new(alloc);
+    'rows: for (source, target, delay, offset) in rows {
+        if *source >= events || *target >= events || *delay > 1_000_000 || *offset > 15 {
+            return Ok(None);
+        }
+        rules.push(Rule {
+            source: *source,
+            target: *target,
+            delay: *delay,
+            offset: *offset,
+        })?;
+    }
+    Ok(Some(rules))
+}
+
+/// Flags that keep the rules of offset 0.
+fn timeless(alloc: Global, rules: &[Rule]) -> Result<Vec<bool>, AllocError>
+    ensures count { IfOk result (λ keep. length keep.items ≡ length rules.now) }
+    ensures kept { IfOk result (λ keep. (n : ℕ) → n < length rules.now → (rule_at rules.now n).offset ≡ 0 → kept_by keep.items n ≡ true) }
+{
+    let mut keep = Vec::new(alloc);
+    'rules: for rule in rules {
+        keep.push(rule.offset == 0)?;
+    }
+    Ok(keep)
+}
+
+/// Whether every cycle has an offset.
+fn is_live(alloc: Global, system: &System) -> Result<bool, AllocError>
+    ensures { IfOk result (λ live. live ≡ true → IsLive system.now.rules) }
+{
+    let keep = timeless(alloc, system.rules())?;
+    if let Some(dead) = first_cycle(alloc, system, &keep)? {
+        let _ = dead;
+        return Ok(false);
+    }
+    Ok(true)
+}
+
+/// Whether there is a cycle.
+fn has_cycle(alloc: Global, system: &System) -> Result<bool, AllocError>
+    ensures { IfOk result (λ some. some ≡ true → HasCycle system.now.rules) }
+{
+    let keep = vec![in alloc; true; system.rules().len()]?;
+    let found = first_cycle(alloc, system, &keep)?;
+    Ok(found.is_some())
+}
+
+/// The top and the bottom of the period of a live system with a cycle.
+fn period_of(alloc: Global, events: u32, rows: &[Row]) -> Result<(u64, u64), Fail> {
+    let rules = rules_of(alloc, events, rows)?.ok_or("beyond the limits")?;
+    let system = System::build(alloc, events, &rules)?;
+    let live = is_live(alloc, &system)?;
+    let some = has_cycle(alloc, &system)?;
+    if !live || !some {
+        return Err("no period")?;
+    }
+    let found = greatest(alloc, &system)?;
+    Ok((found.period.top(), found.period.bottom()))
+}
+
+/// A ring of three inverters, by the offsets of two of its rules.
+fn inverter_ring(first: u32, second: u32) -> [Row; 6] {
+    [
+        (1, 2, 12, 0),
+        (0, 3, 10, 0),
+        (3, 4, 12, 0),
+        (2, 5, 10, 0),
+        (5, 0, 12, first),
+        (4, 1, 10, second),
+    ]
+}
+
+#[test]
+fn inverter_rings(rt: HostRuntime) -> Result<(), Fail> {
+    let table = [(1, 0, 66, 1), (1, 1, 33, 1), (2, 2, 33, 2)];
+    for (first, second, top, bottom) in table {
+        assert_eq!(rt;
+            period_of(rt.alloc(), 6, &inverter_ring(first, second))?,
+            (top, bottom)
+        );
+    }
+    Ok(())
+}
+
+#[test]
+fn ring_without_delays(rt: HostRuntime) -> Result<(), Fail> {
+    let rows = [
+        (1, 2, 0, 0),
+        (0, 3, 0, 0),
+        (3, 4, 0, 0),
+        (2, 5, 0, 0),
+        (5, 0, 0, 1),
+        (4, 1, 0, 0),
+    ];
+    assert_eq!(rt; period_of(rt.alloc(), 6, &rows)?, (0, 1));
+    Ok(())
+}
+
+#[test]
+fn muller_ring(rt: HostRuntime) -> Result<(), Fail> {
+    let rows = [
+        (8, 0, 20, 0),
+        (9, 1, 18, 1),
+        (6, 0, 20, 0),
+        (7, 1, 18, 0),
+        (1, 2, 12, 0),
+        (0, 3, 10, 0),
+        (0, 4, 20, 1),
+        (1, 5, 18, 0),
+        (10, 4, 20, 1),
+        (11, 5, 18, 0),
+        (5, 6, 12, 0),
+        (4, 7, 10, 0),
+        (4, 8, 20, 0),
+        (5, 9, 18, 0),
+        (2, 8, 20, 0),
+        (3, 9, 18, 0),
+        (9, 10, 12, 0),
+        (8, 11, 10, 0),
+    ];
+    assert_eq!(rt; period_of(rt.alloc(), 12, &rows)?, (180, 1));
+    Ok(())
+}
+
+#[test]
+fn two_ways_round(rt: HostRuntime) -> Result<(), Fail> {
+    let rows = [
+        (1, 2, 12, 0),
+        (0, 3, 10, 0),
+        (3, 4, 12, 0),
+        (2, 5, 10, 0),
+        (3, 6, 12, 0),
+        (2, 7, 10, 0),
+        (5, 0, 12, 1),
+        (4, 1, 10, 0),
+        (7, 0, 12, 1),
+        (6, 1, 10, 0),
+    ];
+    assert_eq!(rt; period_of(rt.alloc(), 8, &rows)?, (66, 1));
+    Ok(())
+}
+
+#[test]
+fn one_net(rt: HostRuntime) -> Result<(), Fail> {
+    let rows = [(0, 0, 7, 1), (1, 0, 7, 1), (0, 1, 5, 0), (1, 1, 5, 1)];
+    assert_eq!(rt; period_of(rt.alloc(), 2, &rows)?, (12, 1));
+    Ok(())
+}

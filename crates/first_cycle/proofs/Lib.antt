@@ -1,0 +1,5 @@
+pub mod Lists
+pub mod Unraised
+pub mod Passes
+pub mod Least
+pub mod Opening

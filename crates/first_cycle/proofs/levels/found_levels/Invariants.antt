@@ -1,0 +1,9 @@
+use Rattle.std.proofs.Common.{ℕ, ◌<◌, All}
+use Rattle.first_cycle.specs.Levels.{AreFound}
+use Rattle.first_cycle.proofs.levels.found_levels.Given as goal
+
+abbrev pub invariant-visits : goal.invariant-visits
+invariant-visits l = record {
+  found : AreFound l.system.events l.system.rules l.keep l.end l.levels.items;
+  queue : All (λ queued. queued < l.system.events) l.queue.items;
+}

@@ -1,0 +1,12 @@
+-- The slack of a fork.
+use Rattle.std.specs.Prelude.{ℕ, ◌*◌, ℤ, pos, ◌+ℤ◌, ◌-ℤ◌, List, slice_index_or}
+use Rattle.fork_slack.specs.declared.slacks.ForkOf.{ForkOf}
+
+-- the arrival of an event in a list of arrivals
+abbrev pub arrival_of : List ℤ → ℕ → ℤ
+arrival_of arrivals event = slice_index_or arrivals event (pos 0)
+
+-- by how much the slow event, a number of periods later, comes after the fast one, beyond the margin
+abbrev pub slack_of : ℕ → ℕ → ForkOf → List ℤ → ℤ
+slack_of top bottom fork arrivals =
+    ((arrival_of arrivals fork.slow -ℤ arrival_of arrivals fork.fast) +ℤ pos (top * fork.offset)) -ℤ pos (bottom * fork.margin)

@@ -1,0 +1,4 @@
+pub mod Turned
+pub mod Returns
+pub mod Offsets
+pub mod Outcomes

@@ -1,0 +1,54 @@
+ghost use Rattle.std.specs.Prelude.{◌≡◌, ◌<◌, ◌≤◌, ℕ, pos, All, IfOk};
+ghost use Rattle.rule_system.specs.Walks.{IsConnected};
+ghost use Rattle.rule_system.specs.Weights.{HasNoGain, AreArrivals};
+ghost use Rattle.cyc_num.specs.Within.{LiesWithin};
+
+use crate::rounds::settle;
+use crate::starts::path_weights;
+use crate::times::Times;
+use cyc_num::Ratio;
+use rule_system::System;
+use std::alloc::{AllocError, Global};
+use std::thread::Threads;
+
+/// A way to find arrivals.
+pub trait ArrivalMaker {
+    /// The arrivals from the root: for each event the greatest weight, `bottom * delay - top * offset`, over all
+    /// walks from the root to it, in picoseconds scaled by the period's bottom.
+    fn arrivals<R: Threads + Sync>(
+        &self,
+        rt: &R,
+        alloc: Global,
+        system: &System,
+        root: u32,
+        period: Ratio,
+    ) -> Result<Times, AllocError>
+        requires top { period.top ≤ 32768000000 }
+        requires bottom { period.bottom ≤ 491520 }
+        requires root { root < system.now.events }
+        requires connected { IsConnected system.now.events system.now.rules root }
+        requires no_gain { HasNoGain period.top period.bottom system.now.rules }
+        ensures arrivals { IfOk result (λ x. AreArrivals period.top period.bottom system.now.events system.now.rules root x) }
+        ensures within { IfOk result (λ x. All (LiesWithin 17000000000000000) x) };
+}
+
+/// Finds arrivals on one thread.
+#[derive(Clone, Copy, Debug, Default)]
+pub struct Plain;
+
+impl ArrivalMaker for Plain {
+    fn arrivals<R: Threads + Sync>(
+        &self,
+        rt: &R,
+        alloc: Global,
+        system: &System,
+        root: u32,
+        period: Ratio,
+    ) -> Result<Times, AllocError> {
+        let top = period.top();
+        let bottom = period.bottom();
+        let mut times = path_weights(alloc, system, root, top, bottom)?;
+        settle(system, root, top, bottom, &mut times);
+        Ok(Times::of(times))
+    }
+}

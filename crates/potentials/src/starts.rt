@@ -1,0 +1,55 @@
+ghost use Rattle.std.specs.Prelude.{◌≡◌, ◌<◌, ◌≤◌, ℕ, pos, All, IfOk};
+ghost use Rattle.rule_system.specs.Weights.{time_of, AreAttained};
+ghost use Rattle.cyc_num.specs.Within.{LiesWithin};
+ghost use Rattle.potentials.specs.Times.{AllReachable, ArePathWeights};
+
+use crate::proposals::propose;
+use crate::times::Times;
+use crate::trees::grow;
+use cyc_num::Ratio;
+use rule_system::System;
+use std::alloc::{AllocError, Global};
+
+/// For each event the weight of a walk from the root that comes by no event twice; the root's is 0.
+/// The weights are `bottom * delay - top * offset`, in picoseconds scaled by the period's bottom.
+pub fn first_weights(
+    alloc: Global,
+    system: &System,
+    root: u32,
+    period: Ratio,
+) -> Result<Times, AllocError>
+    requires top { period.top ≤ 32768000000 }
+    requires bottom { period.bottom ≤ 491520 }
+    requires root { root < system.now.events }
+    requires reachable { AllReachable system.now.events system.now.rules root }
+    ensures weights { IfOk result (λ x. ArePathWeights period.top period.bottom system.now.events system.now.rules root x) }
+    ensures attained { IfOk result (λ x. AreAttained period.top period.bottom system.now.events system.now.rules root x) }
+    ensures root { IfOk result (λ x. time_of x root ≡ pos 0) }
+    ensures within { IfOk result (λ x. All (LiesWithin 17000000000000000) x) }
+{
+    let weights = path_weights(alloc, system, root, period.top(), period.bottom())?;
+    Ok(Times::of(weights))
+}
+
+/// The weights of paths from the root.
+pub fn path_weights(
+    alloc: Global,
+    system: &System,
+    root: u32,
+    top: u64,
+    bottom: u64,
+) -> Result<Vec<i64>, AllocError>
+    requires top { top ≤ 32768000000 }
+    requires bottom { bottom ≤ 491520 }
+    requires root { root < system.now.events }
+    requires reachable { AllReachable system.now.events system.now.rules root }
+    ensures weights { IfOk result (λ x. ArePathWeights top bottom system.now.events system.now.rules root x.items) }
+    ensures within { IfOk result (λ x. All (LiesWithin 17000000000000000) x.items) }
+{
+    let events = system.events() as usize;
+    let mut times = vec![in alloc; 0; events]?;
+    let mut reached = vec![in alloc; false; events]?;
+    let order = propose(alloc, system, root, top, bottom)?;
+    grow(system, &order, root, top, bottom, &mut times, &mut reached);
+    Ok(times)
+}

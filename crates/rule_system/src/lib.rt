@@ -1,0 +1,22 @@
+//! Repetitive systems of events and rules, and the laws of their walks.
+//!
+//! A rule says that its target follows its source by a delay; its offset counts how many
+//! repetitions later that is. Delays are in picoseconds. At a period of top/bottom picoseconds a
+//! repetition, weights and arrivals are scaled by the bottom, so that they are whole numbers.
+//!
+//! Source of such systems, of their simulation and of their period: S. M. Burns, Performance
+//! Analysis and Optimization of Asynchronous Circuits, California Institute of Technology, 1991.
+#![tactic(auto)]
+
+mod cycles;
+pub mod inverter_ring;
+pub mod laws;
+pub mod plain;
+mod rules;
+mod systems;
+#[cfg(test)]
+mod tests;
+
+pub use cycles::Cycle;
+pub use rules::Rule;
+pub use systems::System;

@@ -1,0 +1,189 @@
+//! Plain slow programs straight from the definitions, for tests to compare faster ones with.
+//! They go through all walks of at most so many rules as there are events, so they are for small
+//! systems alone: their time is exponential in the number of events.
+ghost use Rattle.std.specs.Prelude.{◌≡◌, ℕ, ◌<◌, ◌≤◌, ◌+ℤ◌, ◌≤ℤ◌, pos, List, IfOk, IfSome, IfNone, length};
+ghost use Rattle.rule_system.specs.FirstCycle.{IsFirstCycle, kept_by};
+ghost use Rattle.rule_system.specs.Plain.{IsFirstFrom, IsFirstWalk, IsKeptWalk, NoneFrom, IsGreatest, IsWithin, greater_of, after_rule};
+ghost use Rattle.rule_system.specs.Walks.{IsConnected, IsCycle, IsKept, Reaches};
+ghost use Rattle.rule_system.specs.Weights.{AreArrivals, HasNoGain, IsArrival, rule_weight};
+
+use crate::cycles::Cycle;
+use crate::rules::Rule;
+use crate::systems::System;
+use std::alloc::{AllocError, Global};
+
+/// The first of the cycles of kept rules: for each start and each length in turn the first walk back.
+pub fn first_cycle(
+    alloc: Global,
+    system: &System,
+    keep: &[bool],
+) -> Result<Option<Cycle>, AllocError>
+    requires { length keep.now ≡ length system.now.rules }
+    ensures some { IfOk result (λ found. IfSome found (λ cycle. IsFirstCycle system.now.rules (kept_by keep.now) cycle)) }
+    ensures none { IfOk result (λ found. IfNone found ((cycle : List ℕ) → IsCycle system.now.rules cycle → IsKept (kept_by keep.now) cycle → ⊥)) }
+{
+    'starts: for start in 0..system.events() {
+        if let Some(cycle) = first_from(alloc, system, keep, start)? {
+            return Ok(Some(Cycle::of(cycle)));
+        }
+    }
+    Ok(None)
+}
+
+/// The first of the cycles of kept rules that start at an event.
+fn first_from(
+    alloc: Global,
+    system: &System,
+    keep: &[bool],
+    start: u32,
+) -> Result<Option<Vec<u32>>, AllocError>
+    requires { length keep.now ≡ length system.now.rules }
+    ensures some { IfOk result (λ found. IfSome found (λ cycle. IsFirstFrom system.now.rules (kept_by keep.now) start cycle.items)) }
+    ensures none { IfOk result (λ found. IfNone found (NoneFrom system.now.rules (kept_by keep.now) start)) }
+{
+    let rules = system.rules();
+    'counts: for fewer in 0..system.events() {
+        if let Some(cycle) = first_walk(alloc, rules, keep, start, start, fewer + 1)? {
+            return Ok(Some(cycle));
+        }
+    }
+    Ok(None)
+}
+
+/// The first in the order of lists of the walks of so many kept rules between two events.
+fn first_walk(
+    alloc: Global,
+    rules: &[Rule],
+    keep: &[bool],
+    from: u32,
+    to: u32,
+    count: u32,
+) -> Result<Option<Vec<u32>>, AllocError>
+    requires rules { length rules.now ≤ 131072 }
+    requires keep { length keep.now ≡ length rules.now }
+    ensures some { IfOk result (λ found. IfSome found (λ walk. IsFirstWalk rules.now (kept_by keep.now) count from walk.items to)) }
+    ensures none { IfOk result (λ found. IfNone found ((walk : List ℕ) → IsKeptWalk rules.now (kept_by keep.now) count from walk to → ⊥)) }
+{
+    if count == 0 {
+        return Ok(if from == to {
+            Some(Vec::new(alloc))
+        } else {
+            None
+        });
+    }
+    'heads: for (number, rule) in rules.iter().enumerate() {
+        if rule.source == from && keep[number] {
+            if let Some(mut walk) = first_walk(alloc, rules, keep, rule.target, to, count - 1)? {
+                walk.insert(0, number as u32)?;
+                return Ok(Some(walk));
+            }
+        }
+    }
+    Ok(None)
+}
+
+/// The arrivals of all events from a root at a period of top/bottom picoseconds, scaled by the bottom:
+/// for each event the greatest weight of a walk.
+pub fn arrivals(
+    alloc: Global,
+    top: u64,
+    bottom: u64,
+    system: &System,
+    root: u32,
+) -> Result<Vec<i64>, AllocError>
+    requires top { top ≤ 32768000000 }
+    requires bottom { bottom ≤ 491520 }
+    requires root { root < system.now.events }
+    requires connected { IsConnected system.now.events system.now.rules root }
+    requires no_gain { HasNoGain top bottom system.now.rules }
+    ensures { IfOk result (λ times. AreArrivals top bottom system.now.events system.now.rules root times.items) }
+{
+    let mut times = Vec::new(alloc);
+    'events: for event in 0..system.events() {
+        let time = arrival(top, bottom, system, root, event);
+        times.push(time)?;
+    }
+    Ok(times)
+}
+
+/// The arrival of an event that a walk from the root reaches.
+fn arrival(top: u64, bottom: u64, system: &System, root: u32, event: u32) -> i64
+    requires top { top ≤ 32768000000 }
+    requires bottom { bottom ≤ 491520 }
+    requires root { root < system.now.events }
+    requires reached { Reaches system.now.rules root event }
+    requires no_gain { HasNoGain top bottom system.now.rules }
+    ensures { IsArrival top bottom system.now.rules root event result }
+{
+    match greatest_weight(top, bottom, system, root, event, system.events()) {
+        Some(time) => time,
+        None => 0,
+    }
+}
+
+/// The greatest weight of a walk of at most so many rules between two events.
+fn greatest_weight(
+    top: u64,
+    bottom: u64,
+    system: &System,
+    from: u32,
+    to: u32,
+    left: u32,
+) -> Option<i64>
+    requires top { top ≤ 32768000000 }
+    requires bottom { bottom ≤ 491520 }
+    requires left { left ≤ 32768 }
+    ensures greatest { IsGreatest top bottom system.now.rules left from to result }
+    ensures within { IsWithin left result }
+{
+    let mut best = if from == to { Some(0) } else { None };
+    if left == 0 {
+        return best;
+    }
+    'heads: for rule in system.rules() {
+        if rule.source == from {
+            let rest = greatest_weight(top, bottom, system, rule.target, to, left - 1);
+            best = greater(best, after(weight_of(top, bottom, *rule), rest));
+        }
+    }
+    best
+}
+
+/// The greater of two weights, where none is less than any.
+fn greater(a: Option<i64>, b: Option<i64>) -> Option<i64>
+    ensures { result ≡ greater_of a b }
+{
+    match (a, b) {
+        (Some(x), Some(y)) => Some(x.max(y)),
+        (Some(x), None) => Some(x),
+        (None, y) => y,
+    }
+}
+
+/// The weight with that of a rule before it.
+fn after(first: i64, rest: Option<i64>) -> Option<i64>
+    requires low { pos 0 ≤ℤ (first +ℤ pos 491520000000) }
+    requires high { first ≤ℤ pos 491520000000 }
+    requires rest { IsWithin 32768 rest }
+    ensures { result ≡ after_rule first rest }
+{
+    match rest {
+        Some(weight) => Some(first + weight),
+        None => None,
+    }
+}
+
+/// What a ratio makes of a rule: bottom times its delay, less top times its offset.
+fn weight_of(top: u64, bottom: u64, rule: Rule) -> i64
+    requires top { top ≤ 32768000000 }
+    requires bottom { bottom ≤ 491520 }
+    requires delay { rule.delay ≤ 1000000 }
+    requires offset { rule.offset ≤ 15 }
+    ensures weight { result ≡ rule_weight top bottom rule }
+    ensures low { pos 0 ≤ℤ (result +ℤ pos 491520000000) }
+    ensures high { result ≤ℤ pos 491520000000 }
+{
+    let gain = bottom * rule.delay as u64;
+    let cost = top * rule.offset as u64;
+    gain as i64 - cost as i64
+}

@@ -1,0 +1,122 @@
+use crate::inverter_ring::ring_has_its_period;
+use crate::{Cycle, Rule, System, plain};
+use std::test::Fail;
+
+const INVERTER_RING: [Rule; 6] = [
+    Rule {
+        source: 1,
+        target: 2,
+        delay: 12,
+        offset: 0,
+    },
+    Rule {
+        source: 0,
+        target: 3,
+        delay: 10,
+        offset: 0,
+    },
+    Rule {
+        source: 3,
+        target: 4,
+        delay: 12,
+        offset: 0,
+    },
+    Rule {
+        source: 2,
+        target: 5,
+        delay: 10,
+        offset: 0,
+    },
+    Rule {
+        source: 5,
+        target: 0,
+        delay: 12,
+        offset: 1,
+    },
+    Rule {
+        source: 4,
+        target: 1,
+        delay: 10,
+        offset: 0,
+    },
+];
+
+/// Two events with a rule from each to each.
+const BOTH_WAYS: [Rule; 4] = [
+    Rule {
+        source: 0,
+        target: 0,
+        delay: 7,
+        offset: 1,
+    },
+    Rule {
+        source: 1,
+        target: 0,
+        delay: 7,
+        offset: 1,
+    },
+    Rule {
+        source: 0,
+        target: 1,
+        delay: 5,
+        offset: 0,
+    },
+    Rule {
+        source: 1,
+        target: 1,
+        delay: 5,
+        offset: 1,
+    },
+];
+
+#[test]
+fn builds_the_ring(rt: HostRuntime) -> Result<(), Fail> {
+    let system = System::build(rt.alloc(), 6, &INVERTER_RING)?;
+    assert_eq!(rt; system.events(), 6);
+    assert_eq!(rt; system.rules(), INVERTER_RING.as_slice());
+    assert_eq!(rt; system.into_event(0), [4].as_slice());
+    assert_eq!(rt; system.out_of_event(0), [1].as_slice());
+    Ok(())
+}
+
+#[test]
+fn lists_rules_in_rising_order(rt: HostRuntime) -> Result<(), Fail> {
+    let system = System::build(rt.alloc(), 2, &BOTH_WAYS)?;
+    assert_eq!(rt; system.into_event(0), [0, 1].as_slice());
+    assert_eq!(rt; system.into_event(1), [2, 3].as_slice());
+    assert_eq!(rt; system.out_of_event(0), [0, 2].as_slice());
+    assert_eq!(rt; system.out_of_event(1), [1, 3].as_slice());
+    Ok(())
+}
+
+#[test]
+fn keeps_the_numbers_of_a_cycle(rt: HostRuntime) -> Result<(), Fail> {
+    let cycle = Cycle::of(vec![in rt.alloc(); 1, 2, 5, 0, 3, 4]?);
+    assert_eq!(rt; cycle.list(), [1, 2, 5, 0, 3, 4].as_slice());
+    Ok(())
+}
+
+#[test]
+fn finds_first_cycles_plainly(rt: HostRuntime) -> Result<(), Fail> {
+    let system = System::build(rt.alloc(), 2, &BOTH_WAYS)?;
+    let rows = [
+        ([true, true, true, true], Some([0].as_slice())),
+        ([false, true, true, true], Some([2, 1].as_slice())),
+        ([false, false, true, true], Some([3].as_slice())),
+        ([false, false, true, false], None),
+    ];
+    for (keep, want) in rows {
+        let found = plain::first_cycle(rt.alloc(), &system, &keep)?;
+        assert_eq!(rt; found.as_ref().map(|cycle| cycle.list()), want);
+    }
+    Ok(())
+}
+
+#[test]
+fn finds_the_ring_plainly(rt: HostRuntime) -> Result<(), Fail> {
+    ring_has_its_period();
+    let system = System::build(rt.alloc(), 6, &INVERTER_RING)?;
+    let times = plain::arrivals(rt.alloc(), 66, 1, &system, 0)?;
+    assert_eq!(rt; times.as_slice(), [0, 32, 44, 10, 22, 54].as_slice());
+    Ok(())
+}
