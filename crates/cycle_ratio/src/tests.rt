@@ -69,17 +69,22 @@ fn has_cycle(alloc: Global, system: &System) -> Result<bool, AllocError>
     Ok(found.is_some())
 }
 
-/// The top and the bottom of the period of a live system with a cycle.
-fn period_of(alloc: Global, events: u32, rows: &[Row]) -> Result<(u64, u64), Fail> {
+/// The top and the bottom of the period, where the system is live and has a cycle.
+fn period_if_any(alloc: Global, events: u32, rows: &[Row]) -> Result<Option<(u64, u64)>, Fail> {
     let rules = rules_of(alloc, events, rows)?.ok_or("beyond the limits")?;
     let system = System::build(alloc, events, &rules)?;
     let live = is_live(alloc, &system)?;
     let some = has_cycle(alloc, &system)?;
     if !live || !some {
-        return Err("no period")?;
+        return Ok(None);
     }
     let found = greatest(alloc, &system)?;
-    Ok((found.period.top(), found.period.bottom()))
+    Ok(Some((found.period.top(), found.period.bottom())))
+}
+
+/// The top and the bottom of the period of a live system with a cycle.
+fn period_of(alloc: Global, events: u32, rows: &[Row]) -> Result<(u64, u64), Fail> {
+    Ok(period_if_any(alloc, events, rows)?.ok_or("no period")?)
 }
 
 /// A ring of three inverters, by the offsets of two of its rules.
@@ -168,5 +173,100 @@ fn two_ways_round(rt: HostRuntime) -> Result<(), Fail> {
 fn one_net(rt: HostRuntime) -> Result<(), Fail> {
     let rows = [(0, 0, 7, 1), (1, 0, 7, 1), (0, 1, 5, 0), (1, 1, 5, 1)];
     assert_eq!(rt; period_of(rt.alloc(), 2, &rows)?, (12, 1));
+    Ok(())
+}
+
+/// Numbers that look drawn at random (a linear congruence of 64 bits).
+#[derive(Drop)]
+struct Draw {
+    state: u64,
+}
+
+impl Draw {
+    fn below(&mut self, bound: u32) -> u32 {
+        self.state = self
+            .state
+            .wrapping_mul(6_364_136_223_846_793_005)
+            .wrapping_add(1_442_695_040_888_963_407);
+        if bound == 0 {
+            return 0;
+        }
+        ((self.state >> 33) % u64::from(bound)) as u32
+    }
+}
+
+/// Some rules between so many events.
+fn drawn_rows(alloc: Global, draw: &mut Draw, events: u32) -> Result<Vec<Row>, AllocError> {
+    let mut rows = Vec::new(alloc);
+    for _ in 0..5u32 {
+        let source = draw.below(events);
+        let target = draw.below(events);
+        let delay = draw.below(30);
+        let offset = draw.below(3);
+        rows.push((source, target, delay, offset))?;
+    }
+    Ok(rows)
+}
+
+/// The delay and the offset of the list of rules whose numbers are the digits of `code`, if it is a closed walk.
+fn closed_sums(rows: &[Row], code: u64, length: u32) -> Option<(u64, u64)> {
+    let count = (rows.len() as u64).max(1);
+    let mut rest = code;
+    let mut ends = None;
+    let mut delay = 0u64;
+    let mut offset = 0u64;
+    for _ in 0..length {
+        let row = rows.get((rest % count) as usize)?;
+        rest /= count;
+        ends = match ends {
+            None => Some((row.0, row.1)),
+            Some((start, at)) if at == row.0 => Some((start, row.1)),
+            Some(_) => return None,
+        };
+        delay = delay.saturating_add(u64::from(row.2));
+        offset = offset.saturating_add(u64::from(row.3));
+    }
+    match ends {
+        Some((start, at)) if start == at => Some((delay, offset)),
+        _ => None,
+    }
+}
+
+/// The greater ratio of a best one so far and those of the closed walks of so many rules.
+fn best_of_length(rows: &[Row], length: u32, best: (u64, u64)) -> (u64, u64) {
+    let mut best = best;
+    for code in 0..(rows.len() as u64).saturating_pow(length) {
+        if let Some((delay, offset)) = closed_sums(rows, code, length) {
+            if delay.saturating_mul(best.1) > best.0.saturating_mul(offset) {
+                best = (delay, offset);
+            }
+        }
+    }
+    best
+}
+
+/// The greatest ratio of delay to offset over all closed walks of at most as many rules as there are events.
+fn listed_ratio(events: u32, rows: &[Row]) -> (u64, u64) {
+    let mut best = (0, 1);
+    for length in 1..events.saturating_add(1) {
+        best = best_of_length(rows, length, best);
+    }
+    best
+}
+
+#[test]
+fn drawn_systems(rt: HostRuntime) -> Result<(), Fail> {
+    let mut draw = Draw { state: 7 };
+    let mut judged = 0u32;
+    for _ in 0..120u32 {
+        let events = draw.below(4).saturating_add(1);
+        let rows = drawn_rows(rt.alloc(), &mut draw, events)?;
+        if let Some((top, bottom)) = period_if_any(rt.alloc(), events, &rows)? {
+            let (delay, offset) = listed_ratio(events, &rows);
+            assert_eq!(rt; top.saturating_mul(offset), delay.saturating_mul(bottom));
+            judged = judged.saturating_add(1);
+        }
+    }
+    assert!(rt; judged > 20, "{judged} of 120 systems have a period");
     Ok(())
 }

@@ -1,10 +1,9 @@
 //! The expansion of a netlist.
-ghost use Rattle.std.specs.Prelude.{◌≡◌, ◌<◌, ◌++◌, ◌∷◌, [], slice_index, OnOk, IfOk};
+ghost use Rattle.std.specs.Prelude.{◌≡◌, ◌<◌, ◌++◌, ◌∷◌, [], OnOk, IfOk};
 ghost use Rattle.std.specs.List.{flat_map};
-ghost use Rattle.engine.specs.Netlists.{last_net};
 ghost use Rattle.engine.specs.Expansion as spec;
 
-use crate::instances::{Instance, Nets};
+use crate::instances::Instance;
 use crate::netlists::Netlist;
 use crate::rules::Rule;
 use cell_arcs::{CellArc, Library, Sense};
@@ -51,35 +50,13 @@ fn push_arc(rules: &mut Vec<Rule>, input: u32, output: u32, arc: CellArc) -> Res
     }
 }
 
-/// The net of a pin by its place.
-fn net_at(pins: &Nets, at: usize) -> u32
-    ensures net { result ≡ slice_index pins.now at }
-    ensures small { result < 16384 }
-{
-    match pins.list().get(at) {
-        Some(net) => *net,
-        None => 0,
-    }
-}
-
-/// The net of the last pin.
-fn last_net_of(pins: &Nets) -> u32
-    ensures net { result ≡ last_net pins.now }
-    ensures small { result < 16384 }
-{
-    match pins.list() {
-        [.., last] => *last,
-        [] => 0,
-    }
-}
-
 /// Adds the rules of an instance, arc by arc.
 fn push_arcs(rules: &mut Vec<Rule>, instance: &Instance, arcs: &[CellArc]) -> Result<(), AllocError>
     ensures { OnOk result (rules.new.items ≡ rules.old.items ++ flat_map (spec.arc_rules instance.now) arcs.now) }
 {
-    let output = last_net_of(&instance.pins);
+    let output = instance.pins.last();
     for arc in arcs {
-        push_arc(rules, net_at(&instance.pins, arc.from), output, *arc)?;
+        push_arc(rules, instance.pins.at(arc.from), output, *arc)?;
     }
     Ok(())
 }

@@ -26,7 +26,8 @@ impl Model for Nets {
 }
 
 impl Nets {
-    ghost use Rattle.std.specs.Prelude.{◌≡◌, ◌<◌, All};
+    ghost use Rattle.std.specs.Prelude.{◌≡◌, ◌<◌, All, slice_index};
+    ghost use Rattle.engine.specs.Netlists.{last_net};
 
     pub(crate) fn of(items: Vec<u32>) -> Nets
         requires { All (λ net. net < 16384) items.items }
@@ -40,5 +41,27 @@ impl Nets {
         ensures small { All (λ net. net < 16384) result.now }
     {
         self.items.as_slice()
+    }
+
+    /// The net of a pin by its place.
+    pub(crate) fn at(&self, place: usize) -> u32
+        ensures net { result ≡ slice_index self.now place }
+        ensures small { result < 16384 }
+    {
+        match self.list().get(place) {
+            Some(net) => *net,
+            None => 0,
+        }
+    }
+
+    /// The net of the last pin.
+    pub(crate) fn last(&self) -> u32
+        ensures net { result ≡ last_net self.now }
+        ensures small { result < 16384 }
+    {
+        match self.list() {
+            [.., last] => *last,
+            [] => 0,
+        }
     }
 }

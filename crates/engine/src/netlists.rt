@@ -247,7 +247,7 @@ impl Netlist {
     {
         let cell = library.cell(at);
         let pins = self.connect(alloc, cell, words)?;
-        let output = last_of(&pins);
+        let output = pins.last();
         if let Some(place) = self.driver_place(output) {
             return Err(StatementFault::DriverTaken(place + 1));
         }
@@ -326,15 +326,5 @@ impl Netlist {
                 self.with_inst(alloc, library, inst.name.bytes(), inst.cell.bytes(), words)
             }
         }
-    }
-}
-
-/// The net of the last pin.
-fn last_of(pins: &Nets) -> u32
-    ensures { result ≡ last_net pins.now }
-{
-    match pins.list() {
-        [.., last] => *last,
-        [] => 0,
     }
 }

@@ -67,6 +67,8 @@ serve lib.toml bare.net a.txt => fault: usage|
 expand none.toml bare.net => fault: read none.toml|
 expand lib.toml none.net => fault: read none.net|
 expand bare.net none.net => fault: library|
+expand lib.toml later.net => fault: not yet|
+expand bare.net later.net => fault: library|
 ";
 
 /// The status of a written text, by its front.
@@ -118,11 +120,12 @@ fn words(alloc: Global, line: &str) -> Result<Vec<String>, AllocError> {
     Ok(words)
 }
 
-// A library and a netlist under the names of the rows.
+// A library and a netlist under the names of the rows, and a netlist of a later format.
 fn files(alloc: Global, library: &[u8], netlist: &[u8]) -> Result<Vec<NamedFile>, AllocError> {
     let mut files = Vec::new(alloc);
     files.push(file(alloc, "lib.toml", library)?)?;
     files.push(file(alloc, "bare.net", netlist)?)?;
+    files.push(file(alloc, "later.net", b"foo\ntick A+ B+ 1\n")?)?;
     Ok(files)
 }
 

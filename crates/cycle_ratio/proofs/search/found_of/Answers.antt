@@ -4,8 +4,8 @@ use Rattle.cycle_ratio.proofs.search.found_of.Goals as goal
 
 pub returns-clause-greatest : goal.returns-clause-greatest
 returns-clause-greatest c =
-    let d = rw c.list.ensures at c.sums_of-sums.ensures.delay in
-    let o = rw c.list.ensures at c.sums_of-sums.ensures.offset in
+    let d = rw c.list.ensures.numbers at c.sums_of-sums.ensures.delay in
+    let o = rw c.list.ensures.numbers at c.sums_of-sums.ensures.offset in
     no_gain_lowest _ _ _ _ _ (c.requires.live _ c.requires.cycle.is_cycle) (rw (d, o) at c.of-period.ensures.equal)
 
 pub returns-clause-top : goal.returns-clause-top
