@@ -1,0 +1,5 @@
+pub mod BlockLemmas
+pub mod InstanceLemmas
+pub mod Places
+pub mod Soundness
+pub mod Tables
