@@ -1,5 +1,0 @@
-pub mod BlockLemmas
-pub mod InstanceLemmas
-pub mod Places
-pub mod Soundness
-pub mod Tables
