@@ -2,6 +2,8 @@
 #![tactic(auto)]
 
 mod checking;
+mod choices;
+mod closings;
 mod gains;
 mod proposals;
 mod raising;

@@ -7,7 +7,7 @@ ghost use Rattle.cycle_ratio.specs.Cycles.{HasCycle};
 
 use crate::greatest;
 use first_cycle::first_cycle;
-use rule_system::{Rule, System};
+use rule_system::{Rule, System, plain};
 use std::alloc::{AllocError, Global};
 use std::test::Fail;
 
@@ -69,22 +69,34 @@ fn has_cycle(alloc: Global, system: &System) -> Result<bool, AllocError>
     Ok(found.is_some())
 }
 
-/// The top and the bottom of the period, where the system is live and has a cycle.
-fn period_if_any(alloc: Global, events: u32, rows: &[Row]) -> Result<Option<(u64, u64)>, Fail> {
+/// The system of some rows, where it is live and has a cycle.
+fn system_if_any(alloc: Global, events: u32, rows: &[Row]) -> Result<Option<System>, Fail>
+    ensures live { IfOk result (λ found. IfSome found (λ system. IsLive system.rules)) }
+    ensures cycle { IfOk result (λ found. IfSome found (λ system. HasCycle system.rules)) }
+{
     let rules = rules_of(alloc, events, rows)?.ok_or("beyond the limits")?;
     let system = System::build(alloc, events, &rules)?;
     let live = is_live(alloc, &system)?;
     let some = has_cycle(alloc, &system)?;
-    if !live || !some {
-        return Ok(None);
-    }
-    let found = greatest(alloc, &system)?;
-    Ok(Some((found.period.top(), found.period.bottom())))
+    Ok(if live && some { Some(system) } else { None })
 }
 
 /// The top and the bottom of the period of a live system with a cycle.
 fn period_of(alloc: Global, events: u32, rows: &[Row]) -> Result<(u64, u64), Fail> {
-    Ok(period_if_any(alloc, events, rows)?.ok_or("no period")?)
+    let system = system_if_any(alloc, events, rows)?.ok_or("no period")?;
+    let found = greatest(alloc, &system)?;
+    Ok((found.period.top(), found.period.bottom()))
+}
+
+/// Whether the period is the one of the plain test.
+fn is_right(alloc: Global, system: &System) -> Result<bool, AllocError>
+    requires live { IsLive system.now.rules }
+    requires cycle { HasCycle system.now.rules }
+{
+    let found = greatest(alloc, system)?;
+    let top = found.period.top();
+    let bottom = found.period.bottom();
+    Ok(plain::is_period(top, bottom, system))
 }
 
 /// A ring of three inverters, by the offsets of two of its rules.
@@ -208,52 +220,6 @@ fn drawn_rows(alloc: Global, draw: &mut Draw, events: u32) -> Result<Vec<Row>, A
     Ok(rows)
 }
 
-/// The delay and the offset of the list of rules whose numbers are the digits of `code`, if it is a closed walk.
-fn closed_sums(rows: &[Row], code: u64, length: u32) -> Option<(u64, u64)> {
-    let count = (rows.len() as u64).max(1);
-    let mut rest = code;
-    let mut ends = None;
-    let mut delay = 0u64;
-    let mut offset = 0u64;
-    for _ in 0..length {
-        let row = rows.get((rest % count) as usize)?;
-        rest /= count;
-        ends = match ends {
-            None => Some((row.0, row.1)),
-            Some((start, at)) if at == row.0 => Some((start, row.1)),
-            Some(_) => return None,
-        };
-        delay = delay.saturating_add(u64::from(row.2));
-        offset = offset.saturating_add(u64::from(row.3));
-    }
-    match ends {
-        Some((start, at)) if start == at => Some((delay, offset)),
-        _ => None,
-    }
-}
-
-/// The greater ratio of a best one so far and those of the closed walks of so many rules.
-fn best_of_length(rows: &[Row], length: u32, best: (u64, u64)) -> (u64, u64) {
-    let mut best = best;
-    for code in 0..(rows.len() as u64).saturating_pow(length) {
-        if let Some((delay, offset)) = closed_sums(rows, code, length) {
-            if delay.saturating_mul(best.1) > best.0.saturating_mul(offset) {
-                best = (delay, offset);
-            }
-        }
-    }
-    best
-}
-
-/// The greatest ratio of delay to offset over all closed walks of at most as many rules as there are events.
-fn listed_ratio(events: u32, rows: &[Row]) -> (u64, u64) {
-    let mut best = (0, 1);
-    for length in 1..events.saturating_add(1) {
-        best = best_of_length(rows, length, best);
-    }
-    best
-}
-
 #[test]
 fn drawn_systems(rt: HostRuntime) -> Result<(), Fail> {
     let mut draw = Draw { state: 7 };
@@ -261,9 +227,8 @@ fn drawn_systems(rt: HostRuntime) -> Result<(), Fail> {
     for _ in 0..120u32 {
         let events = draw.below(4).saturating_add(1);
         let rows = drawn_rows(rt.alloc(), &mut draw, events)?;
-        if let Some((top, bottom)) = period_if_any(rt.alloc(), events, &rows)? {
-            let (delay, offset) = listed_ratio(events, &rows);
-            assert_eq!(rt; top.saturating_mul(offset), delay.saturating_mul(bottom));
+        if let Some(system) = system_if_any(rt.alloc(), events, &rows)? {
+            assert!(rt; is_right(rt.alloc(), &system)?);
             judged = judged.saturating_add(1);
         }
     }

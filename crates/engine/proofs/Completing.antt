@@ -4,7 +4,7 @@ use Rattle.std.specs.Prelude.{IfSome, ◌⊎◌}
 use Rattle.std.proofs.lemmas.Bool.{cases_lt}
 use Rattle.std.specs.Io.KnownBytes.{Appends}
 use Rattle.cyc_port.specs.Files.{Files}
-use Rattle.engine.specs.declared.faults.Fault.TheVariants.{Usage, Library, NotYet, Netlist, Read, TooLong, Memory}
+use Rattle.engine.specs.declared.faults.Fault.TheVariants.{Usage, Library, NetSyntax, NetStatement, TooManyRules, Read, TooLong, Memory}
 use Rattle.engine.specs.Answers.{Answer, status_of, text_of}
 use Rattle.engine.specs.Commands.{command_of}
 use Rattle.engine.specs.Verdict.{verdict}
@@ -19,9 +19,10 @@ pub told_answer : (run : Run) (files : Files) → run.files ≡ Some files → H
     → (status_of answer ≡ 8) ⊎ (verdict run.words files ≡ answer)
 told_answer run files told no_fault (Ok text) may = inr (rw told at may.verdict)
 told_answer run files told no_fault (Err Usage) may = inr (rw may refl)
-told_answer run files told no_fault (Err Library) may = inr (rw told at may.verdict)
-told_answer run files told no_fault (Err NotYet) may = inr (rw told at may.verdict)
-told_answer run files told no_fault (Err Netlist) may = inr (rw told at may.verdict)
+told_answer run files told no_fault (Err (Library e)) may = inr (rw told at may.0.verdict)
+told_answer run files told no_fault (Err (NetSyntax n)) may = inr (rw told at may.verdict)
+told_answer run files told no_fault (Err (NetStatement n e)) may = inr (rw told at may.0.verdict)
+told_answer run files told no_fault (Err (TooManyRules n)) may = inr (rw told at may.verdict)
 told_answer run files told no_fault (Err (Read name)) may = absurd (no_fault may.command may.asked name (file_word may.turn) may.rose)
   where
     file_word : IsInTurn run.files may.command name → (name ≡ may.command.library) ⊎ (name ≡ may.command.netlist)

@@ -7,7 +7,7 @@ use Rattle.cyc_port.specs.Files.{Files, IsLongFile, file_limit}
 use Rattle.cell_arcs.specs.Library.{library_of}
 use Rattle.cell_arcs.specs.declared.cells.Cell.{Cell}
 use Rattle.engine.specs.declared.faults.Fault.{Fault}
-use Rattle.engine.specs.declared.faults.Fault.TheVariants.{Usage, Library, NotYet, Netlist, Read, TooLong, Memory}
+use Rattle.engine.specs.declared.faults.Fault.TheVariants.{Usage, Library, NetSyntax, NetStatement, TooManyRules, Read, TooLong, Memory}
 use Rattle.engine.specs.Answers.{Answer}
 use Rattle.engine.specs.Commands.{Command, command_of}
 use Rattle.engine.specs.Content.{IsRead}
@@ -31,7 +31,7 @@ module _ (words : List (List ℕ)) (command : Command) (asked : command_of words
   long_library (Some all) long = rw asked (long_then command.library (library_verdict all command) (map.get all command.library) long)
 
   -- a library that is refused
-  refused_library : (files : Option Files) (bytes : List ℕ) (e : _) → IsTold files command.library bytes → library_of bytes ≡ Err e → IfSome files (λ all. verdict words all ≡ Err Library)
+  refused_library : (files : Option Files) (bytes : List ℕ) (e : _) → IsTold files command.library bytes → library_of bytes ≡ Err e → IfSome files (λ all. verdict words all ≡ Err (Library e))
   refused_library None bytes e told refused = tt
   refused_library (Some all) bytes e told refused =
       rw (asked, told.there) (read_on command.library bytes (library_verdict all command) told.short ∙ rw refused refl)
@@ -57,19 +57,21 @@ library_failed run command asked (TooLong told) (same, rose, long) =
     record { command = command; asked = asked; turn = inl same; rose = rw same rose; verdict = rw same (long_library run.words command asked run.files long) }
 library_failed run command asked Memory failure = tt
 library_failed run command asked Usage failure = absurd failure
-library_failed run command asked Library failure = absurd failure
-library_failed run command asked NotYet failure = absurd failure
-library_failed run command asked Netlist failure = absurd failure
+library_failed run command asked (Library x) failure = absurd failure
+library_failed run command asked (NetSyntax n) failure = absurd failure
+library_failed run command asked (NetStatement n x) failure = absurd failure
+library_failed run command asked (TooManyRules n) failure = absurd failure
 
 -- the library was refused
 pub library_refused : (run : Run) (command : Command) → command_of run.words ≡ Some command → (bytes : List ℕ) (e : Fault)
     → IsTold run.files command.library bytes → IsRead (library_of bytes) (Err e) → May run (Err e)
-library_refused run command asked bytes Library told (e, refused) =
-    record { command = command; asked = asked; verdict = refused_library run.words command asked run.files bytes e told refused }
+library_refused run command asked bytes (Library e) told (refused, other) =
+    (record { command = command; asked = asked; verdict = refused_library run.words command asked run.files bytes e told refused }, other)
 library_refused run command asked bytes Memory told read = tt
 library_refused run command asked bytes Usage told read = absurd read
-library_refused run command asked bytes NotYet told read = absurd read
-library_refused run command asked bytes Netlist told read = absurd read
+library_refused run command asked bytes (NetSyntax n) told read = absurd read
+library_refused run command asked bytes (NetStatement n x) told read = absurd read
+library_refused run command asked bytes (TooManyRules n) told read = absurd read
 library_refused run command asked bytes (Read x) told read = absurd read
 library_refused run command asked bytes (TooLong x) told read = absurd read
 
@@ -79,10 +81,12 @@ pub netlist_judged : (run : Run) (command : Command) → command_of run.words �
     → MayNetlist run.files library command.netlist fm run.faults_now lm run.long_now answer → May run answer
 netlist_judged run command asked bytes library fm lm (Ok text) told read f l may =
     record { command = command; asked = asked; verdict = judged_netlist run.words command asked run.files bytes library (Ok text) told read may }
-netlist_judged run command asked bytes library fm lm (Err NotYet) told read f l may =
-    record { command = command; asked = asked; verdict = judged_netlist run.words command asked run.files bytes library (Err NotYet) told read may }
-netlist_judged run command asked bytes library fm lm (Err Netlist) told read f l may =
-    record { command = command; asked = asked; verdict = judged_netlist run.words command asked run.files bytes library (Err Netlist) told read may }
+netlist_judged run command asked bytes library fm lm (Err (NetSyntax n)) told read f l may =
+    record { command = command; asked = asked; verdict = judged_netlist run.words command asked run.files bytes library (Err (NetSyntax n)) told read may }
+netlist_judged run command asked bytes library fm lm (Err (NetStatement n x)) told read f l (may, other) =
+    (record { command = command; asked = asked; verdict = judged_netlist run.words command asked run.files bytes library (Err (NetStatement n x)) told read may }, other)
+netlist_judged run command asked bytes library fm lm (Err (TooManyRules n)) told read f l may =
+    record { command = command; asked = asked; verdict = judged_netlist run.words command asked run.files bytes library (Err (TooManyRules n)) told read may }
 netlist_judged run command asked bytes library fm lm (Err (Read x)) told read f l (same, rose) =
     record {
       command = command;
@@ -100,7 +104,7 @@ netlist_judged run command asked bytes library fm lm (Err (TooLong x)) told read
     }
 netlist_judged run command asked bytes library fm lm (Err Memory) told read f l may = tt
 netlist_judged run command asked bytes library fm lm (Err Usage) told read f l may = absurd may
-netlist_judged run command asked bytes library fm lm (Err Library) told read f l may = absurd may
+netlist_judged run command asked bytes library fm lm (Err (Library x)) told read f l may = absurd may
 
 -- the library was read, and the rest answered for
 pub library_judged : (run : Run) (command : Command) → command_of run.words ≡ Some command → (bytes : List ℕ) (fm lm : List ℕ → ℕ) (answer : Answer)

@@ -1,10 +1,6 @@
-pub mod Results
-pub mod Netlists
-pub mod Statements
-pub mod Lines
-pub mod Expansion
 pub mod RulesText
 pub mod Commands
+pub mod FaultLines
 pub mod Answers
 pub mod Verdict
 pub mod Runs

@@ -1,13 +1,15 @@
 -- What a run may answer, and what it leaves in the sink.
-use Rattle.std.specs.Prelude.{◌≡◌, ◌≤◌, ◌⊎◌, ◌<◌, ℕ, List, [], length, Option, Some, None, Result, Ok, Err, IfSome, take}
+use Rattle.std.specs.Prelude.{◌≡◌, ◌≢◌, ◌≤◌, ◌⊎◌, ◌<◌, ℕ, List, [], length, Option, Some, None, Result, Ok, Err, IfSome, take}
 use Rattle.std.specs.Io.KnownBytes.{Appends, Keeps}
 use Rattle.std.specs.FinMap as map
 use Rattle.cyc_port.specs.Counts.{Rose}
 use Rattle.cyc_port.specs.Files.{Files, IsLongFile, file_limit}
 use Rattle.cell_arcs.specs.Library.{library_of}
 use Rattle.cell_arcs.specs.declared.cells.Cell.{Cell}
+use Rattle.cell_arcs.specs.declared.faults.LibraryFault.TheVariants as library
+use Rattle.netlist_model.specs.declared.faults.StatementFault.TheVariants as statement
 use Rattle.engine.specs.declared.faults.Fault.{Fault}
-use Rattle.engine.specs.declared.faults.Fault.TheVariants.{Usage, Library, NotYet, Netlist, Read, TooLong, Memory}
+use Rattle.engine.specs.declared.faults.Fault.TheVariants.{Usage, Library, NetSyntax, NetStatement, TooManyRules, Read, TooLong, Memory}
 use Rattle.engine.specs.Answers.{Answer, status_of, text_of}
 use Rattle.engine.specs.Content.{IsRead}
 use Rattle.engine.specs.Commands.{Command, command_of}
@@ -60,13 +62,14 @@ pub record IsJudged (run : Run) (answer : Answer) : Type 0 where
   pub asked : command_of run.words ≡ Some command
   pub verdict : IsVerdict run answer
 
--- when each answer may come
+-- when each answer may come; want of memory is told as no refusal
 abbrev pub May : Run → Answer → Type 0
 May run (Ok text) = IsJudged run (Ok text)
 May run (Err Usage) = command_of run.words ≡ None
-May run (Err Library) = IsJudged run (Err Library)
-May run (Err NotYet) = IsJudged run (Err NotYet)
-May run (Err Netlist) = IsJudged run (Err Netlist)
+May run (Err (Library e)) = IsJudged run (Err (Library e)) × (e ≢ library.Memory)
+May run (Err (NetSyntax line)) = IsJudged run (Err (NetSyntax line))
+May run (Err (NetStatement line e)) = IsJudged run (Err (NetStatement line e)) × (e ≢ statement.Memory)
+May run (Err (TooManyRules count)) = IsJudged run (Err (TooManyRules count))
 May run (Err (Read name)) = IsReadFault run name
 May run (Err (TooLong name)) = IsTooLong run name
 May run (Err Memory) = Unit {0}
@@ -117,7 +120,9 @@ MayNetlist files library name fb fn lb ln (Err (TooLong told)) =
     (told ≡ name) × Rose (lb name) (ln name) × IfSome files (λ all. read_then name (netlist_answer library) (map.get all name) ≡ Err (TooLong name))
 MayNetlist files library name fb fn lb ln (Err Memory) = Unit {0}
 MayNetlist files library name fb fn lb ln (Err Usage) = ⊥
-MayNetlist files library name fb fn lb ln (Err Library) = ⊥
+MayNetlist files library name fb fn lb ln (Err (Library e)) = ⊥
+MayNetlist files library name fb fn lb ln (Err (NetStatement line e)) =
+    IfSome files (λ all. read_then name (netlist_answer library) (map.get all name) ≡ Err (NetStatement line e)) × (e ≢ statement.Memory)
 MayNetlist files library name fb fn lb ln answer = IfSome files (λ all. read_then name (netlist_answer library) (map.get all name) ≡ answer)
 
 -- the answer for a library that is refused, or for which memory was wanting
@@ -133,7 +138,3 @@ MayLibrary files bytes name fb fn lb ln answer =
 -- the run that began over some files and counts, and ended at others
 abbrev pub run_of : List (List ℕ) → Option Files → (List ℕ → ℕ) → (List ℕ → ℕ) → (List ℕ → ℕ) → (List ℕ → ℕ) → Run
 run_of words files fb fn lb ln = record { words = words; files = files; faults_before = fb; faults_now = fn; long_before = lb; long_now = ln }
-
--- a refused netlist
-abbrev pub IsNetlistRefusal : Answer → Type 0
-IsNetlistRefusal answer = (answer ≡ Err NotYet) ⊎ (answer ≡ Err Netlist)

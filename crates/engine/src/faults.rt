@@ -1,19 +1,31 @@
-//! What a run answers: a text, or why there is none.
-ghost use Rattle.std.specs.Prelude.{◌≡◌, ◌++◌, IfOk, codes, Ok, Err};
+//! Why a run has no text.
+ghost use Rattle.std.specs.Prelude.{◌≡◌};
 ghost use Rattle.engine.specs.declared.faults.Fault.TheVariants.{Memory};
-ghost use Rattle.engine.specs.Answers.{status_of, text_of};
+ghost use Rattle.engine.specs.Answers.{status_of};
 
+use cell_arcs::LibraryFault;
 use cyc_text::Text;
-use std::alloc::{AllocError, AllocFailed, Global};
+use netlist_model::StatementFault;
+use std::alloc::{AllocError, AllocFailed};
 
+/// Why a run has no text. Lines, cells, pins and arcs are counted from 1.
 #[derive(Debug, Drop)]
 pub enum Fault {
+    /// The words are none that the program takes.
     Usage,
-    Library,
-    NotYet,
-    Netlist,
+    /// The library is refused.
+    Library(LibraryFault),
+    /// This line of the netlist's file has no form of a line.
+    NetSyntax(u64),
+    /// The statement of this line of the netlist's file is refused.
+    NetStatement(u64, StatementFault),
+    /// The netlist has this many rules, more than there may be.
+    TooManyRules(u64),
+    /// The file of this word could not be read.
     Read(Text),
+    /// The file of this word is too long.
     TooLong(Text),
+    /// Memory ran out.
     Memory,
 }
 
@@ -33,39 +45,16 @@ impl<T: Drop> From<AllocFailed<T>> for Fault {
     }
 }
 
+/// The status of an answer.
 pub(crate) fn status(answer: &Result<Text, Fault>) -> u8
     ensures { result ≡ status_of answer.now }
 {
     match answer {
         Ok(_) => 0,
         Err(Fault::Usage) => 2,
-        Err(Fault::Library) => 3,
-        Err(Fault::NotYet | Fault::Netlist) => 4,
+        Err(Fault::Library(_)) => 3,
+        Err(Fault::NetSyntax(_) | Fault::NetStatement(_, _) | Fault::TooManyRules(_)) => 4,
         Err(Fault::Read(_) | Fault::TooLong(_)) => 6,
         Err(Fault::Memory) => 8,
-    }
-}
-
-fn named(alloc: Global, front: &str, name: &Text) -> Result<Vec<u8>, AllocError>
-    ensures { IfOk result (λ line. line.items ≡ front.now ++ name.now ++ codes "\n") }
-{
-    let mut line = Vec::from_slice(alloc, front.as_bytes())?;
-    line.extend_from_slice(name.bytes())?;
-    line.extend_from_slice(b"\n")?;
-    Ok(line)
-}
-
-/// What is written for a fault.
-pub(crate) fn line(alloc: Global, fault: &Fault) -> Result<Vec<u8>, AllocError>
-    ensures { IfOk result (λ line. line.items ≡ text_of (Err fault.now)) }
-{
-    match fault {
-        Fault::Usage => Vec::from_slice(alloc, b"fault: usage\n"),
-        Fault::Library => Vec::from_slice(alloc, b"fault: library\n"),
-        Fault::NotYet => Vec::from_slice(alloc, b"fault: not yet\n"),
-        Fault::Netlist => Vec::from_slice(alloc, b"fault: netlist\n"),
-        Fault::Read(name) => named(alloc, "fault: read ", name),
-        Fault::TooLong(name) => named(alloc, "fault: too long ", name),
-        Fault::Memory => Ok(Vec::new(alloc)),
     }
 }

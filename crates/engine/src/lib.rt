@@ -3,19 +3,12 @@
 
 mod command;
 mod content;
-mod expansion;
+mod fault_lines;
 mod faults;
-mod instances;
-mod net_faults;
-mod netlists;
+mod numbers;
 mod outcome;
-mod parsing;
 mod printing;
-mod reading;
-mod rules;
 mod run;
-mod statements;
-mod tables;
 #[cfg(test)]
 mod tests;
 mod top;

@@ -1,25 +1,28 @@
 //! The text of the rules.
-ghost use Rattle.std.specs.Prelude.{◌≡◌, ◌++◌, ◌∷◌, ◌*◌, [], length, codes, decimal, OnOk, IfOk};
+ghost use Rattle.std.specs.Prelude.{◌≡◌, ◌++◌, ◌∷◌, ◌*◌, [], length, slice_get, unwrap_or, codes, decimal, OnOk, IfOk};
 ghost use Rattle.engine.specs.RulesText as spec;
 
-use crate::netlists::Netlist;
-use crate::rules::Rule;
-use itoa::Buffer;
+use crate::numbers::push_decimal;
+use netlist_model::Netlist;
+use rule_system::Rule;
 use std::alloc::{AllocError, Global};
 
-/// Adds a number in decimal.
-fn push_decimal(text: &mut Vec<u8>, number: u64) -> Result<(), AllocError>
-    ensures { OnOk result (text.new.items ≡ text.old.items ++ decimal number) }
+/// The name of a net; none where there is no such net.
+fn net_name(netlist: &Netlist, net: usize) -> &[u8]
+    ensures { result.now ≡ unwrap_or (slice_get netlist.now.nets net) [] }
 {
-    let mut buffer = Buffer::new();
-    text.extend_from_slice(buffer.format(number).as_bytes())
+    if net < netlist.net_count() {
+        netlist.net_name(net)
+    } else {
+        b""
+    }
 }
 
 /// Adds an event's name.
 fn push_event(text: &mut Vec<u8>, netlist: &Netlist, event: u32) -> Result<(), AllocError>
     ensures { OnOk result (text.new.items ≡ text.old.items ++ spec.event_name netlist.now.nets event) }
 {
-    text.extend_from_slice(netlist.net_name((event / 2) as usize))?;
+    text.extend_from_slice(net_name(netlist, (event / 2) as usize))?;
     text.push(if event % 2 == 0 { b'+' } else { b'-' })?;
     Ok(())
 }

@@ -1,4 +1,4 @@
-//! The top call.
+//! A run: files are read and judged in turn.
 ghost use Rattle.std.specs.Prelude.{◌≡◌, ◌≤◌, ◌<◌, ℕ, map, length, List, IfErr, IfOk};
 ghost use Rattle.std.specs.String.{string_bytes};
 ghost use Rattle.cyc_port.specs.Counts.{NoneFell};
@@ -11,6 +11,7 @@ use cell_arcs::Library;
 use cyc_port::{Shelf, ShelfFault};
 use cyc_text::Text;
 use std::alloc::Global;
+use std::thread::Threads;
 
 /// A file's text.
 fn read_file<F: Shelf>(alloc: Global, shelf: &mut F, name: &str) -> Result<Text, Fault>
@@ -29,7 +30,8 @@ fn read_file<F: Shelf>(alloc: Global, shelf: &mut F, name: &str) -> Result<Text,
 }
 
 /// What the netlist's file comes to, over an accepted library.
-fn judge_netlist<F: Shelf>(
+fn judge_netlist<R: Threads + Sync, F: Shelf>(
+    rt: &R,
     alloc: Global,
     shelf: &mut F,
     library: &Library,
@@ -41,11 +43,12 @@ fn judge_netlist<F: Shelf>(
     ensures long_later { NoneFell (F.long_reads shelf.old) (F.long_reads shelf.new) }
 {
     let netlist = read_file(alloc, shelf, name)?;
-    netlist_text(alloc, library, netlist.bytes())
+    netlist_text(rt, alloc, library, netlist.bytes())
 }
 
 /// What the library's bytes come to, and then the netlist's file.
-fn judge_library<F: Shelf>(
+fn judge_library<R: Threads + Sync, F: Shelf>(
+    rt: &R,
     alloc: Global,
     shelf: &mut F,
     bytes: &[u8],
@@ -58,12 +61,17 @@ fn judge_library<F: Shelf>(
 {
     match read_library(alloc, bytes) {
         Err(fault) => Err(fault),
-        Ok(library) => judge_netlist(alloc, shelf, &library, netlist),
+        Ok(library) => judge_netlist(rt, alloc, shelf, &library, netlist),
     }
 }
 
 /// What the words come to, over the files of the shelf.
-pub(crate) fn judge<F: Shelf>(alloc: Global, words: &[String], shelf: &mut F) -> Result<Text, Fault>
+pub(crate) fn judge<R: Threads + Sync, F: Shelf>(
+    rt: &R,
+    alloc: Global,
+    words: &[String],
+    shelf: &mut F,
+) -> Result<Text, Fault>
     ensures may { spec.May (record {
       words = map string_bytes words.now;
       files = F.files shelf.old;
@@ -79,6 +87,6 @@ pub(crate) fn judge<F: Shelf>(alloc: Global, words: &[String], shelf: &mut F) ->
     };
     match read_file(alloc, shelf, asked.library) {
         Err(fault) => Err(fault),
-        Ok(text) => judge_library(alloc, shelf, text.bytes(), asked.netlist),
+        Ok(text) => judge_library(rt, alloc, shelf, text.bytes(), asked.netlist),
     }
 }

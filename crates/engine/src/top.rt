@@ -3,6 +3,7 @@ ghost use Rattle.std.specs.Prelude.{◌≡◌, ◌≤◌, ◌<◌, ◌⊎◌, []
 ghost use Rattle.std.specs.String.{string_bytes};
 ghost use Rattle.std.specs.Io.KnownBytes.{Keeps};
 ghost use Rattle.cyc_port.specs.Counts.{Rose};
+ghost use Rattle.engine.specs.Answers.{RefusesLibrary, RefusesNetlist};
 ghost use Rattle.engine.specs.Commands.{command_of};
 ghost use Rattle.engine.specs.Runs as spec;
 ghost use Rattle.engine.specs.Verdict.{verdict};
@@ -18,8 +19,8 @@ use std::thread::Threads;
 /// Does what the words ask for, over the files of the shelf, and writes its text, or the line of a fault, to the sink.
 ///
 /// The words are `expand LIB NET`. Each file is read and judged before the next is opened.
-pub fn answer<R: Threads, F: Shelf, K: Sink, G: Gate + Sync>(
-    _rt: &R,
+pub fn answer<R: Threads + Sync, F: Shelf, K: Sink, G: Gate + Sync>(
+    rt: &R,
     alloc: Global,
     words: &[String],
     shelf: &mut F,
@@ -48,8 +49,8 @@ pub fn answer<R: Threads, F: Shelf, K: Sink, G: Gate + Sync>(
 
     // Over told files, whatever the counts.
     ensures done { result.status ≡ 0 → IfSome (F.files shelf.old) (λ files. IsOk (verdict (map string_bytes words.now) files)) }
-    ensures library { result.status ≡ 3 → IfSome (F.files shelf.old) (λ files. verdict (map string_bytes words.now) files ≡ Err Fault.Library) }
-    ensures netlist { result.status ≡ 4 → IfSome (F.files shelf.old) (λ files. spec.IsNetlistRefusal (verdict (map string_bytes words.now) files)) }
+    ensures library { result.status ≡ 3 → IfSome (F.files shelf.old) (λ files. RefusesLibrary (verdict (map string_bytes words.now) files)) }
+    ensures netlist { result.status ≡ 4 → IfSome (F.files shelf.old) (λ files. RefusesNetlist (verdict (map string_bytes words.now) files)) }
 
     // By the words alone.
     ensures usage { result.status ≡ 2 → command_of (map string_bytes words.now) ≡ None }
@@ -58,12 +59,12 @@ pub fn answer<R: Threads, F: Shelf, K: Sink, G: Gate + Sync>(
     ensures order { result.order ≡ [] }
     ensures files { F.files shelf.new ≡ F.files shelf.old }
 {
-    let answer = judge(alloc, words, shelf);
+    let answer = judge(rt, alloc, words, shelf);
     write_answer(alloc, &answer, sink)
 }
 
 /// The top call of the program: `answer` for all words.
-pub fn cyclone<R: Threads, F: Shelf, K: Sink, G: Gate + Sync>(
+pub fn cyclone<R: Threads + Sync, F: Shelf, K: Sink, G: Gate + Sync>(
     rt: &R,
     alloc: Global,
     words: &[String],
@@ -93,8 +94,8 @@ pub fn cyclone<R: Threads, F: Shelf, K: Sink, G: Gate + Sync>(
 
     // Over told files, whatever the counts.
     ensures done { result.status ≡ 0 → IfSome (F.files shelf.old) (λ files. IsOk (verdict (map string_bytes words.now) files)) }
-    ensures library { result.status ≡ 3 → IfSome (F.files shelf.old) (λ files. verdict (map string_bytes words.now) files ≡ Err Fault.Library) }
-    ensures netlist { result.status ≡ 4 → IfSome (F.files shelf.old) (λ files. spec.IsNetlistRefusal (verdict (map string_bytes words.now) files)) }
+    ensures library { result.status ≡ 3 → IfSome (F.files shelf.old) (λ files. RefusesLibrary (verdict (map string_bytes words.now) files)) }
+    ensures netlist { result.status ≡ 4 → IfSome (F.files shelf.old) (λ files. RefusesNetlist (verdict (map string_bytes words.now) files)) }
 
     // By the words alone.
     ensures usage { result.status ≡ 2 → command_of (map string_bytes words.now) ≡ None }

@@ -7,7 +7,7 @@ use crate::weights::offered;
 use cyc_num::Ratio;
 use rule_system::{Rule, System};
 
-/// Whether no rule raises the numbers by more than its weight, `bottom * delay - top * offset`.
+/// Whether along each rule the numbers rise by at least its weight, `bottom * delay - top * offset`.
 /// The numbers `x`, one for each event, are in picoseconds scaled by the period's bottom. One pass over the rules.
 pub fn feasible(system: &System, period: Ratio, x: &[i64]) -> bool
     requires top { period.top ≤ 32768000000 }
@@ -19,7 +19,7 @@ pub fn feasible(system: &System, period: Ratio, x: &[i64]) -> bool
     are_loose(system, period.top(), period.bottom(), x)
 }
 
-/// Whether no rule raises the numbers by more than its weight.
+/// Whether along each rule the numbers rise by at least its weight.
 pub fn are_loose(system: &System, top: u64, bottom: u64, times: &[i64]) -> bool
     requires top { top ≤ 32768000000 }
     requires bottom { bottom ≤ 491520 }
@@ -35,7 +35,7 @@ pub fn are_loose(system: &System, top: u64, bottom: u64, times: &[i64]) -> bool
     true
 }
 
-/// Whether the rule raises the numbers by no more than its weight.
+/// Whether the numbers rise along the rule by at least its weight.
 fn is_loose(rule: Rule, top: u64, bottom: u64, times: &[i64]) -> bool
     requires top { top ≤ 32768000000 }
     requires bottom { bottom ≤ 491520 }

@@ -1,11 +1,14 @@
-//! Numbers of events that no rule raises by more than its weight, first numbers for a search, and arrivals.
+//! Numbers of events that rise along each rule by at least its weight, first numbers for a search, and arrivals.
 #![tactic(auto)]
 
 mod checks;
+mod choices;
+mod heaviest;
 mod makers;
-mod passes;
+mod numbered;
 mod proposals;
 mod rounds;
+mod settled;
 mod starts;
 #[cfg(test)]
 mod tests;

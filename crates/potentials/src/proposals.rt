@@ -3,7 +3,9 @@
 
 ghost use Rattle.std.specs.Prelude.{◌≤◌};
 
-use crate::passes::parents_of;
+use crate::heaviest::parents_of;
+use crate::numbered::{in_order, steps_by_number};
+use crate::settled::settled_numbers;
 use rule_system::System;
 use std::alloc::{AllocError, Global};
 
@@ -19,10 +21,14 @@ pub fn propose(
     requires top { top ≤ 32768000000 }
     requires bottom { bottom ≤ 491520 }
 {
-    let parents = parents_of(alloc, system, root, top, bottom)?;
+    let steps = steps_by_number(alloc, system, top, bottom)?;
+    let ordered = in_order(alloc, system, &steps)?;
+    let events = system.events();
+    let numbers = settled_numbers(alloc, events, &steps, &ordered)?;
+    let parents = parents_of(alloc, system, root, &steps, &numbers)?;
     let mut order = Vec::new(alloc);
     search(alloc, system, root, &parents, &mut order)?;
-    if order.len() + 1 < system.events() as usize {
+    if order.len() + 1 < events as usize {
         search(alloc, system, root, &[], &mut order)?;
     }
     Ok(order)

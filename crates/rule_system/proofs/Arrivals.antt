@@ -19,8 +19,8 @@ same_period rs top bottom top' bottom' live p q =
     let high : top' * bottom ≤ top * bottom' = attained_le top' bottom' top bottom (delay_sum rs q.cycle) (offset_sum rs q.cycle) (live q.cycle q.is_cycle) q.attained (p.greatest q.cycle q.is_cycle) in
     same_ratio top bottom top' bottom' p.lowest q.lowest p.positive q.positive (omega arith)
 
-pub greater_ratio : (top bottom top' bottom' : ℕ) (rs : List Rule) (cycle : List ℕ) → IsLive rs → IsCycle rs cycle → 1 ≤ bottom' → Attains top' bottom' rs cycle → top * bottom' < top' * bottom → Gains top bottom rs cycle
-greater_ratio top bottom top' bottom' rs cycle live c b h k = greater_gains top bottom top' bottom' (delay_sum rs cycle) (offset_sum rs cycle) (live cycle c) b h k
+pub greater_ratio : (top bottom top' bottom' : ℕ) (rs : List Rule) (cycle : List ℕ) → IsCycle rs cycle → 1 ≤ offset_sum rs cycle → 1 ≤ bottom' → Attains top' bottom' rs cycle → top * bottom' < top' * bottom → Gains top bottom rs cycle
+greater_ratio top bottom top' bottom' rs cycle c some b h k = greater_gains top bottom top' bottom' (delay_sum rs cycle) (offset_sum rs cycle) some b h k
 
 pub same_arrival : (top bottom : ℕ) (rs : List Rule) (root event : ℕ) (x y : ℤ) → IsArrival top bottom rs root event x → IsArrival top bottom rs root event y → x ≡ y
 same_arrival top bottom rs root event x y h k =
@@ -30,7 +30,7 @@ same_arrival top bottom rs root event x y h k =
     let f : weight top bottom rs k.walk ≡ y = k.attained in
     omega (arith, ints)
 
--- numbers that no rule raises too far and that walks attain are the arrivals
+-- numbers that rise along each rule by at least its weight, and that walks attain, are the arrivals
 pub certified : (top bottom events : ℕ) (rs : List Rule) (root : ℕ) (times : List ℤ) → IsFeasible top bottom rs times → time_of times root ≡ pos 0 → AreAttained top bottom events rs root times → AreArrivals top bottom events rs root times
 certified top bottom events rs root times f z h = (h.0, λ event k. one event (h.1 event k))
   where
@@ -47,7 +47,7 @@ push_weight top bottom rs w n =
     let e : weight top bottom rs (w ++ n ∷ []) ≡ weight top bottom rs w +ℤ weight top bottom rs (n ∷ []) = weight-append top bottom rs w (n ∷ []) in
     omega (arith, ints)
 
--- no rule raises arrivals by more than its weight
+-- along each rule arrivals rise by at least its weight
 pub arrivals_feasible : (top bottom events : ℕ) (rs : List Rule) (root : ℕ) (times : List ℤ) → EndsBelow events rs → AreArrivals top bottom events rs root times → IsFeasible top bottom rs times
 arrivals_feasible top bottom events rs root times ends h n k =
     let ahead : IsArrival top bottom rs root (source_of rs n) (time_of times (source_of rs n)) = h.1 (source_of rs n) (ends n k).0 in

@@ -18,3 +18,4 @@ pub mod PeriodExists
 pub mod Dead
 pub mod PlainWalks
 pub mod GreatestWeight
+pub mod PlainPeriod

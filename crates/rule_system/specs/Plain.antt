@@ -2,6 +2,7 @@
 use Rattle.std.specs.Prelude.{◌≡◌, ℕ, ◌*◌, ◌<◌, ◌≤◌, ℤ, pos, ◌+ℤ◌, ◌≤ℤ◌, Bool, Option, Some, None, List, ◌∷◌, length, ⊤}
 use Rattle.std.specs.Int.{int_max}
 use Rattle.rule_system.specs.declared.rules.Rule.{Rule}
+use Rattle.rule_system.specs.Rules.{source_of, target_of}
 use Rattle.rule_system.specs.Walks.{IsWalk, IsCycle, IsKept}
 use Rattle.rule_system.specs.Weights.{weight}
 use Rattle.rule_system.specs.FirstCycle.{IsListBefore, IsCycleBefore, start_of}
@@ -65,3 +66,10 @@ greater_of (Some x) (Some y) = Some (int_max x y)
 abbrev pub after_rule : ℤ → Option ℤ → Option ℤ
 after_rule first None = None
 after_rule first (Some rest) = Some (first +ℤ rest)
+
+-- the greatest weight of a cycle of the rule and at most so many more, or none where there is none
+abbrev pub IsGreatestClosing : ℕ → ℕ → List Rule → ℕ → ℕ → Option ℤ → Type 0
+IsGreatestClosing top bottom rules left n None = (walk : List ℕ) → IsShortWalk rules left (target_of rules n) walk (source_of rules n) → ⊥
+IsGreatestClosing top bottom rules left n (Some time) =
+    ((walk : List ℕ) × IsShortWalk rules left (target_of rules n) walk (source_of rules n) × (weight top bottom rules (n ∷ walk) ≡ time))
+    × ((walk : List ℕ) → IsShortWalk rules left (target_of rules n) walk (source_of rules n) → weight top bottom rules (n ∷ walk) ≤ℤ time)

@@ -49,7 +49,7 @@ pub record HasPeriod (rules : List Rule) : Type 0 where
 abbrev pub time_of : List ℤ → ℕ → ℤ
 time_of times event = slice_index_or times event (pos 0)
 
--- no rule raises the numbers by more than its weight
+-- along each rule the numbers rise by at least its weight
 abbrev pub IsFeasible : ℕ → ℕ → List Rule → List ℤ → Type 0
 IsFeasible top bottom rules times =
     (n : ℕ) → n < length rules →

@@ -11,7 +11,7 @@ ghost use Rattle.rule_system.specs.Weights as w;
 ghost use Rattle.rule_system.specs.FirstCycle.{IsFirstCycle};
 ghost use Rattle.rule_system.specs.CriticalCycle.{IsCriticalCycle};
 
-/// Where no rule raises some numbers by more than its weight, no cycle has a greater ratio.
+/// Where along each rule some numbers rise by at least its weight, no cycle has a greater ratio.
 pub fn feasible_numbers_bound_cycles()
     ensures { (top bottom : ℕ) (rules : List Rule) (times : List ℤ) →
         w.IsFeasible top bottom rules times → w.HasNoGain top bottom rules }
@@ -39,7 +39,7 @@ pub fn tested_tight_cycle_attains()
         w.Attains top bottom rules cycle }
 {}
 
-/// A cycle that has the ratio is tight, where no rule raises the numbers by more than its weight.
+/// A cycle that has the ratio is tight, where along each rule the numbers rise by at least its weight.
 pub fn attaining_cycle_is_tight()
     ensures { (top bottom : ℕ) (rules : List Rule) (times : List ℤ) →
         w.IsFeasible top bottom rules times →
@@ -55,10 +55,10 @@ pub fn short_walks_weigh_most()
         w.ShortWalkAtLeast top bottom events rules a walk b }
 {}
 
-/// A cycle of a greater ratio gains.
+/// A cycle with an offset and of a greater ratio gains.
 pub fn greater_ratio_gains()
     ensures { (top bottom greater_top greater_bottom : ℕ) (rules : List Rule) (cycle : List ℕ) →
-        IsLive rules → IsCycle rules cycle → 1 ≤ greater_bottom →
+        IsCycle rules cycle → 1 ≤ offset_sum rules cycle → 1 ≤ greater_bottom →
         w.Attains greater_top greater_bottom rules cycle →
         top * greater_bottom < greater_top * bottom →
         w.Gains top bottom rules cycle }
@@ -106,7 +106,7 @@ pub fn arrival_is_unique()
         time ≡ other }
 {}
 
-/// Numbers that no rule raises too far and that walks attain are the arrivals.
+/// Numbers that rise along each rule by at least its weight, and that walks attain, are the arrivals.
 pub fn attained_feasible_numbers_are_arrivals()
     ensures { (top bottom events : ℕ) (rules : List Rule) (root : ℕ) (times : List ℤ) →
         w.IsFeasible top bottom rules times → w.time_of times root ≡ pos 0 →
@@ -114,7 +114,7 @@ pub fn attained_feasible_numbers_are_arrivals()
         w.AreArrivals top bottom events rules root times }
 {}
 
-/// No rule raises arrivals by more than its weight.
+/// Along each rule arrivals rise by at least its weight.
 pub fn arrivals_are_feasible()
     ensures { (top bottom events : ℕ) (rules : List Rule) (root : ℕ) (times : List ℤ) →
         EndsBelow events rules → w.AreArrivals top bottom events rules root times →
@@ -280,7 +280,7 @@ pub fn weights_compare_ratios()
         w.Attains top bottom rules walk ↔ (w.weight top bottom rules walk ≡ pos 0) }
 {}
 
-/// A cycle that attains a ratio in lowest terms, and numbers that no rule raises too far, show the period.
+/// A cycle that attains a ratio in lowest terms, and numbers that rise along each rule by at least its weight, show the period.
 pub fn attained_feasible_ratios_are_periods()
     ensures { (top bottom : ℕ) (rules : List Rule) (times : List ℤ) (cycle : List ℕ) →
         1 ≤ bottom → IsGcd top bottom 1 → IsCycle rules cycle → w.Attains top bottom rules cycle →

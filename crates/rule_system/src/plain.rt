@@ -1,11 +1,12 @@
 //! Plain slow programs straight from the definitions, for tests to compare faster ones with.
 //! They go through all walks of at most so many rules as there are events, so they are for small
 //! systems alone: their time is exponential in the number of events.
-ghost use Rattle.std.specs.Prelude.{◌≡◌, ℕ, ◌<◌, ◌≤◌, ◌+ℤ◌, ◌≤ℤ◌, pos, List, IfOk, IfSome, IfNone, length};
+ghost use Rattle.std.specs.Prelude.{◌≡◌, ◌↔◌, ℕ, ◌<◌, ◌≤◌, ◌+ℤ◌, ◌≤ℤ◌, pos, List, IsTrue, IfOk, IfSome, IfNone, Some, length};
+ghost use Rattle.std.specs.Int.{IsGcd};
 ghost use Rattle.rule_system.specs.FirstCycle.{IsFirstCycle, kept_by};
-ghost use Rattle.rule_system.specs.Plain.{IsFirstFrom, IsFirstWalk, IsKeptWalk, NoneFrom, IsGreatest, IsWithin, greater_of, after_rule};
+ghost use Rattle.rule_system.specs.Plain.{IsFirstFrom, IsFirstWalk, IsKeptWalk, NoneFrom, IsGreatest, IsGreatestClosing, IsWithin, greater_of, after_rule};
 ghost use Rattle.rule_system.specs.Walks.{IsConnected, IsCycle, IsKept, Reaches};
-ghost use Rattle.rule_system.specs.Weights.{AreArrivals, HasNoGain, IsArrival, rule_weight};
+ghost use Rattle.rule_system.specs.Weights.{AreArrivals, HasNoGain, IsArrival, IsPeriod, rule_weight};
 
 use crate::cycles::Cycle;
 use crate::rules::Rule;
@@ -119,6 +120,47 @@ fn arrival(top: u64, bottom: u64, system: &System, root: u32, event: u32) -> i64
         Some(time) => time,
         None => 0,
     }
+}
+
+/// Whether a ratio in lowest terms is the period: whether the greatest weight of the cycles is 0.
+/// Tries for each rule the walks from its target back to its source.
+pub fn is_period(top: u64, bottom: u64, system: &System) -> bool
+    requires top { top ≤ 32768000000 }
+    requires bottom { bottom ≤ 491520 }
+    requires positive { 1 ≤ bottom }
+    requires lowest { IsGcd top bottom 1 }
+    ensures { IsTrue result ↔ IsPeriod system.now.rules top bottom }
+{
+    let mut best = None;
+    'rules: for number in 0..system.rules().len() {
+        let closing = closing_weight(top, bottom, system, number);
+        best = greater(best, closing);
+    }
+    is_even(best)
+}
+
+/// Whether the weight is 0.
+fn is_even(best: Option<i64>) -> bool
+    ensures { IsTrue result ↔ (best ≡ Some (pos 0)) }
+{
+    match best {
+        Some(weight) => weight == 0,
+        None => false,
+    }
+}
+
+/// The greatest weight of a cycle that begins with a rule and has at most as many more rules as there are events.
+fn closing_weight(top: u64, bottom: u64, system: &System, number: usize) -> Option<i64>
+    requires top { top ≤ 32768000000 }
+    requires bottom { bottom ≤ 491520 }
+    requires number { number < length system.now.rules }
+    ensures { IsGreatestClosing top bottom system.now.rules system.now.events number result }
+{
+    let rule = system.rules()[number];
+    let left = system.events();
+    let rest = greatest_weight(top, bottom, system, rule.target, rule.source, left);
+    let first = weight_of(top, bottom, rule);
+    after(first, rest)
 }
 
 /// The greatest weight of a walk of at most so many rules between two events.

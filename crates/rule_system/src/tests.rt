@@ -116,6 +116,7 @@ fn finds_first_cycles_plainly(rt: HostRuntime) -> Result<(), Fail> {
 fn finds_the_ring_plainly(rt: HostRuntime) -> Result<(), Fail> {
     ring_has_its_period();
     let system = System::build(rt.alloc(), 6, &INVERTER_RING)?;
+    assert!(rt; plain::is_period(66, 1, &system));
     let times = plain::arrivals(rt.alloc(), 66, 1, &system, 0)?;
     assert_eq!(rt; times.as_slice(), [0, 32, 44, 10, 22, 54].as_slice());
     Ok(())

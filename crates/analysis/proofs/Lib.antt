@@ -1,0 +1,5 @@
+pub mod Signed
+pub mod Tight
+pub mod Roots
+pub mod Uniqueness
+pub mod Existence

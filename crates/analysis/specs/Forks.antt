@@ -1,0 +1,39 @@
+-- Forks of a system, and their slacks.
+use Rattle.std.specs.Prelude.{◌≡◌, ℕ, ◌*◌, ◌<◌, ◌≤◌, ◌==◌, ℤ, pos, ◌+ℤ◌, ◌-ℤ◌, List, length, slice_index_or, if◌then◌else◌}
+use Rattle.rule_system.specs.declared.rules.Rule.{Rule}
+use Rattle.rule_system.specs.Weights.{IsArrival, time_of}
+use Rattle.fork_slack.specs.declared.slacks.ForkOf.{ForkOf}
+use Rattle.fork_slack.specs.Slack.{slack_of}
+
+-- a fork of three of so many events, its margin and its offset within the limits
+abbrev pub IsFork : ℕ → ForkOf → Type 0
+IsFork events fork = (fork.root < events) × (fork.fast < events) × (fork.slow < events) × (fork.margin ≤ 1000000) × (fork.offset ≤ 15)
+
+-- what stands for the fork of a number that is out of range
+abbrev pub no_fork : ForkOf
+no_fork = record { root = 0; fast = 0; slow = 0; margin = 0; offset = 0 }
+
+abbrev pub fork_at : List ForkOf → ℕ → ForkOf
+fork_at forks n = slice_index_or forks n no_fork
+
+-- by how much the slow event, a number of periods later, comes after the fast one, beyond the margin:
+-- both by their arrivals, over all walks, from the fork's own root
+pub record IsSlack (top bottom : ℕ) (rules : List Rule) (fork : ForkOf) (slack : ℤ) : Type 0 where
+  pub slow : ℤ
+  pub fast : ℤ
+  pub slow_arrives : IsArrival top bottom rules fork.root fork.slow slow
+  pub fast_arrives : IsArrival top bottom rules fork.root fork.fast fast
+  pub is_slack : slack ≡ ((slow -ℤ fast) +ℤ pos (top * fork.offset)) -ℤ pos (bottom * fork.margin)
+
+-- for each fork, in order, its slack
+abbrev pub AreSlacks : ℕ → ℕ → List Rule → List ForkOf → List ℤ → Type 0
+AreSlacks top bottom rules forks slacks =
+    (length slacks ≡ length forks) × ((n : ℕ) → n < length forks → IsSlack top bottom rules (fork_at forks n) (time_of slacks n))
+
+-- for a fork of the root its slack by these arrivals, and for any other fork what stood there
+abbrev pub slack_or : ℕ → ℕ → ℕ → List ℤ → ForkOf → ℤ → ℤ
+slack_or top bottom root arrivals fork before = if fork.root == root then slack_of top bottom fork arrivals else before
+
+-- an earlier fork has the same root
+abbrev pub HasEarlier : List ForkOf → ℕ → Type 0
+HasEarlier forks n = (k : ℕ) × (k < n) × ((fork_at forks k).root ≡ (fork_at forks n).root)

@@ -1,0 +1,4 @@
+pub mod Forks
+pub mod Faults
+pub mod Analysis
+pub mod InverterRing

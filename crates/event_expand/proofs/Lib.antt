@@ -1,0 +1,4 @@
+pub mod ArcLemmas
+pub mod Bounds
+pub mod Nothing
+pub mod PieceLemmas

@@ -1,0 +1,14 @@
+pub mod Bytes
+pub mod EdgeLemmas
+pub mod FirstRefusal
+pub mod Instances
+pub mod Leads
+pub mod Lists
+pub mod OwnDelays
+pub mod Pins
+pub mod ReadBack
+pub mod Refusals
+pub mod Said
+pub mod Sections
+pub mod Texts
+pub mod TickBlocks

@@ -1,0 +1,109 @@
+// The words of a line, lent one by one, and what a word says.
+ghost use Rattle.std.specs.Prelude.{◌≡◌, ◌<◌, [], ◌∷◌, length, position, IfSome, MatchOption, MatchResult};
+ghost use Rattle.cyc_text.specs.Number.{number_of};
+ghost use Rattle.cyc_text.specs.Words.{words_of};
+ghost use Rattle.netlist_reader.specs.EditLines as spec;
+ghost use Rattle.netlist_reader.specs.Readings.{HasWord, Reads};
+
+use crate::faults::LineFault;
+use cyc_text::{LineSpan, Text, next_word, read_number};
+use netlist_model::{EventName, PinNet, PinNets};
+use std::alloc::Global;
+
+/// The first word of a line, and the line behind it. `None` exactly where the line has no word.
+pub(crate) fn first_word(line: &[u8]) -> Option<(&[u8], &[u8])>
+    ensures words { MatchOption result (words_of line.now ≡ []) (λ p. words_of line.now ≡ p.0.now ∷ words_of p.1.now) }
+    ensures shorter { IfSome result (λ p. length p.1.now < length line.now) }
+{
+    let end = line.len();
+    let whole = LineSpan {
+        from: 0,
+        to: end,
+        next: end,
+    };
+    let word = next_word(line, whole, 0)?;
+    Some((&line[word.from..word.to], &line[word.to..]))
+}
+
+/// The first word of a line that must have one, and the line behind it.
+pub(crate) fn take_word(line: &[u8]) -> Result<(&[u8], &[u8]), LineFault>
+    ensures { MatchResult result (λ p. words_of line.now ≡ p.0.now ∷ words_of p.1.now) (λ _. words_of line.now ≡ []) }
+{
+    first_word(line).ok_or(LineFault::Syntax)
+}
+
+/// Refuses a line that has a word.
+pub(crate) fn take_end(line: &[u8]) -> Result<(), LineFault>
+    ensures { MatchResult result (λ _. words_of line.now ≡ []) (λ _. HasWord (words_of line.now)) }
+{
+    match first_word(line) {
+        Some(_) => Err(LineFault::Syntax),
+        None => Ok(()),
+    }
+}
+
+/// A number.
+pub(crate) fn number(word: &[u8]) -> Result<u64, LineFault>
+    ensures { Reads result (number_of word.now) }
+{
+    read_number(word).ok_or(LineFault::Syntax)
+}
+
+/// Whether the last byte of an event word says that the net rises.
+fn rises(edge: u8) -> Result<bool, LineFault>
+    ensures { Reads result (spec.edge_of edge) }
+{
+    match edge {
+        b'+' => Ok(true),
+        b'-' => Ok(false),
+        _ => Err(LineFault::Syntax),
+    }
+}
+
+/// An event word.
+#[tactic(auto, unfolding(crate::specs::EditLines::event_word))]
+pub(crate) fn event_word(alloc: Global, word: &[u8]) -> Result<EventName, LineFault>
+    ensures { Reads result (spec.event_word word.now) }
+{
+    let Some((edge, net)) = word.split_last() else {
+        return Err(LineFault::Syntax);
+    };
+    let rising = rises(*edge)?;
+    let net = Text::of(alloc, net)?;
+    Ok(EventName { net, rising })
+}
+
+/// The place of the first '='.
+fn equals_at(word: &[u8]) -> Option<usize>
+    ensures place { result ≡ position spec.is_equals word.now }
+    ensures within { IfSome result (λ at. at < length word.now) }
+{
+    word.iter().position(|byte| *byte == b'=')
+}
+
+/// A pin word.
+#[tactic(auto, unfolding(crate::specs::EditLines::pin_word))]
+fn pin_word(alloc: Global, word: &[u8]) -> Result<PinNet, LineFault>
+    ensures { Reads result (spec.pin_word word.now) }
+{
+    let Some(at) = equals_at(word) else {
+        return Err(LineFault::Syntax);
+    };
+    let pin = Text::of(alloc, &word[..at])?;
+    let net = Text::of(alloc, &word[at + 1..])?;
+    Ok(PinNet { pin, net })
+}
+
+/// All words of a line as pin words.
+#[tactic(auto, unfolding(crate::specs::EditLines::pin_words))]
+pub(crate) fn pin_words(alloc: Global, line: &[u8]) -> Result<PinNets, LineFault>
+    ensures { Reads result (spec.pin_words [] (words_of line.now)) }
+{
+    let mut pins = Vec::new(alloc);
+    let mut rest = line;
+    while let Some((word, more)) = first_word(rest) {
+        pins.push(pin_word(alloc, word)?)?;
+        rest = more;
+    }
+    Ok(PinNets::of(pins))
+}
