@@ -17,8 +17,7 @@ use std::alloc::{AllocError, Global};
 /// The canonical text of a netlist over the library that it fits: the lines of its nets, constants, instances,
 /// own delays, ticks, root and forks, with one space between two words and a line feed behind each line.
 ///
-/// What is written is read back as the same netlist. `AllocError` only for want of memory. Linear in the text, but that
-/// each tick is sought among the netlist's blocks of 1,024.
+/// What is written is read back as the same netlist. `AllocError` only for want of memory. Linear in the text.
 pub fn write(alloc: Global, library: &Library, net: &Netlist) -> Result<Text, AllocError>
     requires { Fits library.now net.now.insts }
     ensures text { IfOk result (λ t. t ≡ spec.canonical_text library.now net.now) }
