@@ -2,3 +2,4 @@ pub mod Turned
 pub mod Returns
 pub mod Offsets
 pub mod Outcomes
+pub mod OneFault

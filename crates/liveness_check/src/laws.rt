@@ -1,0 +1,17 @@
+//! The laws of faults. Each is the contract of a function that does nothing.
+ghost use Rattle.std.specs.Prelude.{◌≡◌, ◌≢◌, ℕ, List};
+ghost use Rattle.rule_system.specs.declared.rules.Rule.{Rule};
+ghost use Rattle.liveness_check.specs.declared.faults.LiveFault.{LiveFault};
+ghost use Rattle.liveness_check.specs.declared.faults.LiveFault.TheVariants.{Memory};
+ghost use Rattle.liveness_check.specs.Liveness.{IsFault};
+
+use rule_system::laws::first_cycle_is_unique;
+
+/// Of the faults V1 to V3 at most one holds of a system, at one event or of one cycle.
+pub fn first_fault_is_unique()
+    ensures { (events : ℕ) (rules : List Rule) (root : ℕ) (fault other : LiveFault) →
+        IsFault events rules root fault → IsFault events rules root other →
+        fault ≢ Memory → other ≢ Memory → fault ≡ other }
+{
+    first_cycle_is_unique();
+}
