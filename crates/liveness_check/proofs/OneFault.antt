@@ -1,8 +1,9 @@
--- At most one fault holds of a system.
+-- At most one fault holds of a system, and none of a connected and live one.
 use Rattle.std.proofs.Common.{◌≡◌, ◌≢◌, ℕ, ◌<◌, ◌≤◌, List, ◌⊎◌, inl, inr, refl, ap, arith}
 use Rattle.std.proofs.lemmas.Bool.{cases_lt}
 use Rattle.rule_system.specs.declared.rules.Rule.{Rule}
-use Rattle.rule_system.specs.Walks.{Reaches}
+use Rattle.rule_system.specs.Rules.{offset_sum}
+use Rattle.rule_system.specs.Walks.{IsConnected, IsKept, IsLive, Reaches}
 use Rattle.rule_system.specs.FirstCycle.{IsFirstCycle}
 use Rattle.liveness_check.specs.declared.faults.LiveFault.{LiveFault}
 use Rattle.liveness_check.specs.declared.faults.LiveFault.TheVariants.{Unreached, NoReturn, Dead, Memory}
@@ -35,3 +36,13 @@ same_fault events rs root (Unreached e) Memory one h k m n = absurd (n refl)
 same_fault events rs root (NoReturn e) Memory one h k m n = absurd (n refl)
 same_fault events rs root (Dead c) Memory one h k m n = absurd (n refl)
 same_fault events rs root Memory other one h k m n = absurd (m refl)
+
+-- a cycle of rules of offset 0 has none
+pub record DeadHaveNone (rules : List Rule) : Type 0 where
+  pub none : (cycle : List ℕ) → IsKept (without_offset rules) cycle → offset_sum rules cycle ≡ 0
+
+pub no_fault : (events : ℕ) (rs : List Rule) (root : ℕ) (fault : LiveFault) → DeadHaveNone rs → IsConnected events rs root → IsLive rs → IsFault events rs root fault → fault ≡ Memory
+no_fault events rs root (Unreached e) dead connected live f = absurd (f.unreached (connected e f.is_event).0)
+no_fault events rs root (NoReturn e) dead connected live f = absurd (f.1.without_return (connected e f.1.is_event).1)
+no_fault events rs root (Dead c) dead connected live f = absurd (omega (arith, dead.none c f.1.is_kept, live c f.1.is_cycle))
+no_fault events rs root Memory dead connected live f = refl

@@ -1,11 +1,12 @@
 //! The laws of faults. Each is the contract of a function that does nothing.
 ghost use Rattle.std.specs.Prelude.{◌≡◌, ◌≢◌, ℕ, List};
 ghost use Rattle.rule_system.specs.declared.rules.Rule.{Rule};
+ghost use Rattle.rule_system.specs.Walks.{IsConnected, IsLive};
 ghost use Rattle.liveness_check.specs.declared.faults.LiveFault.{LiveFault};
 ghost use Rattle.liveness_check.specs.declared.faults.LiveFault.TheVariants.{Memory};
 ghost use Rattle.liveness_check.specs.Liveness.{IsFault};
 
-use rule_system::laws::first_cycle_is_unique;
+use rule_system::laws::{dead_cycles_have_no_offset, first_cycle_is_unique};
 
 /// Of the faults V1 to V3 at most one holds of a system, at one event or of one cycle.
 pub fn first_fault_is_unique()
@@ -14,4 +15,13 @@ pub fn first_fault_is_unique()
         fault ≢ Memory → other ≢ Memory → fault ≡ other }
 {
     first_cycle_is_unique();
+}
+
+/// None of them holds of a system that is connected from the root and live.
+pub fn sound_systems_have_no_fault()
+    ensures { (events : ℕ) (rules : List Rule) (root : ℕ) (fault : LiveFault) →
+        IsConnected events rules root → IsLive rules →
+        IsFault events rules root fault → fault ≡ Memory }
+{
+    dead_cycles_have_no_offset();
 }
