@@ -3,3 +3,4 @@ pub mod Returns
 pub mod Offsets
 pub mod Outcomes
 pub mod OneFault
+pub mod Soundness
