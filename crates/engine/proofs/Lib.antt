@@ -1,3 +1,5 @@
 pub mod Steps
 pub mod Judging
 pub mod Completing
+pub mod ForkLemmas
+pub mod OneAnswer

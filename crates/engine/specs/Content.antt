@@ -4,30 +4,57 @@ use Rattle.cell_arcs.specs.declared.cells.Cell.{Cell}
 use Rattle.cell_arcs.specs.declared.faults.LibraryFault.{LibraryFault}
 use Rattle.cell_arcs.specs.declared.faults.LibraryFault.TheVariants as library
 use Rattle.netlist_model.specs.declared.faults.StatementFault.TheVariants as statement
+use Rattle.report_writer.specs.declared.faults.FaultLine.{FaultLine}
+use Rattle.report_writer.specs.declared.faults.FaultLine.TheVariants.{Usage, Library, NetSyntax, NetStatement, Undriven, NoRoot, IdleTick, TooManyRules, Unreached, NoReturn, Dead, ReadFault, TooLong}
 use Rattle.engine.specs.declared.faults.Fault.{Fault}
-use Rattle.engine.specs.declared.faults.Fault.TheVariants.{Usage, Library, NetSyntax, NetStatement, TooManyRules, Read, TooLong, Memory}
+use Rattle.engine.specs.declared.faults.Fault.TheVariants.{Line, Memory}
 use Rattle.engine.specs.Answers.{Answer}
+use Rattle.engine.specs.Findings.{Finding, IsAnswer}
 
--- the library, or its refusal, or want of memory
+-- a line that refuses a library; a want of memory is told by none
+abbrev pub OfLibrary : FaultLine → Type 0
+OfLibrary Usage = ⊥
+OfLibrary (Library e) = e ≢ library.Memory
+OfLibrary (NetSyntax line) = ⊥
+OfLibrary (NetStatement line e) = ⊥
+OfLibrary (Undriven net) = ⊥
+OfLibrary NoRoot = ⊥
+OfLibrary (IdleTick tick) = ⊥
+OfLibrary (TooManyRules count) = ⊥
+OfLibrary (Unreached event) = ⊥
+OfLibrary (NoReturn event) = ⊥
+OfLibrary (Dead events) = ⊥
+OfLibrary (ReadFault name) = ⊥
+OfLibrary (TooLong name) = ⊥
+
+-- a line that refuses a netlist; a want of memory is told by none
+abbrev pub OfNetlist : FaultLine → Type 0
+OfNetlist Usage = ⊥
+OfNetlist (Library e) = ⊥
+OfNetlist (NetSyntax line) = Unit {0}
+OfNetlist (NetStatement line e) = e ≢ statement.Memory
+OfNetlist (Undriven net) = Unit {0}
+OfNetlist NoRoot = Unit {0}
+OfNetlist (IdleTick tick) = Unit {0}
+OfNetlist (TooManyRules count) = Unit {0}
+OfNetlist (Unreached event) = Unit {0}
+OfNetlist (NoReturn event) = Unit {0}
+OfNetlist (Dead events) = Unit {0}
+OfNetlist (ReadFault name) = ⊥
+OfNetlist (TooLong name) = ⊥
+
+-- the line tells why the library is refused
+abbrev pub IsRefusal : Result (List Cell) LibraryFault → FaultLine → Type 0
+IsRefusal wanted line = (e : LibraryFault) × (wanted ≡ Err e) × (line ≡ Library e)
+
+-- the library, or the line of its refusal, or want of memory
 abbrev pub IsRead : Result (List Cell) LibraryFault → Result (List Cell) Fault → Type 0
 IsRead wanted (Ok library) = wanted ≡ Ok library
-IsRead wanted (Err Usage) = ⊥
-IsRead wanted (Err (Library e)) = (wanted ≡ Err e) × (e ≢ library.Memory)
-IsRead wanted (Err (NetSyntax line)) = ⊥
-IsRead wanted (Err (NetStatement line e)) = ⊥
-IsRead wanted (Err (TooManyRules count)) = ⊥
-IsRead wanted (Err (Read name)) = ⊥
-IsRead wanted (Err (TooLong name)) = ⊥
+IsRead wanted (Err (Line line)) = OfLibrary line × IsRefusal wanted line
 IsRead wanted (Err Memory) = Unit {0}
 
--- the wanted answer, which is a text or a refused netlist, or want of memory
-abbrev pub IsNetlistAnswer : Answer → Answer → Type 0
-IsNetlistAnswer wanted (Ok text) = wanted ≡ Ok text
-IsNetlistAnswer wanted (Err Usage) = ⊥
-IsNetlistAnswer wanted (Err (Library e)) = ⊥
-IsNetlistAnswer wanted (Err (NetSyntax line)) = wanted ≡ Err (NetSyntax line)
-IsNetlistAnswer wanted (Err (NetStatement line e)) = (wanted ≡ Err (NetStatement line e)) × (e ≢ statement.Memory)
-IsNetlistAnswer wanted (Err (TooManyRules count)) = wanted ≡ Err (TooManyRules count)
-IsNetlistAnswer wanted (Err (Read name)) = ⊥
-IsNetlistAnswer wanted (Err (TooLong name)) = ⊥
-IsNetlistAnswer wanted (Err Memory) = Unit {0}
+-- an answer to the finding, which is a text or a refused netlist, or want of memory
+abbrev pub IsNetlistAnswer : Finding → Answer → Type 0
+IsNetlistAnswer finding (Ok text) = IsAnswer finding (Ok text)
+IsNetlistAnswer finding (Err (Line line)) = OfNetlist line × IsAnswer finding (Err (Line line))
+IsNetlistAnswer finding (Err Memory) = Unit {0}

@@ -1,7 +1,6 @@
-pub mod RulesText
 pub mod Commands
-pub mod FaultLines
 pub mod Answers
+pub mod Findings
 pub mod Verdict
 pub mod Runs
 pub mod Content

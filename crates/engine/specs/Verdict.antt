@@ -7,59 +7,79 @@ use Rattle.cell_arcs.specs.declared.cells.Cell.{Cell}
 use Rattle.cell_arcs.specs.declared.faults.LibraryFault.{LibraryFault}
 use Rattle.netlist_model.specs.Circuit.{Circuit}
 use Rattle.netlist_model.specs.Expansion.{rules_of}
+use Rattle.netlist_model.specs.Whole.{whole_of}
+use Rattle.netlist_model.specs.declared.faults.WholeFault.{WholeFault}
 use Rattle.netlist_reader.specs.NetlistFiles.{netlist_of}
 use Rattle.netlist_reader.specs.declared.faults.NetFault.{NetFault}
 use Rattle.netlist_reader.specs.declared.faults.NetFault.TheVariants as net
-use Rattle.event_expand.specs.Systems.{system_rules}
-use Rattle.engine.specs.declared.faults.Fault.TheVariants.{Usage, Library, NetSyntax, NetStatement, TooManyRules, Read, TooLong, Memory}
-use Rattle.engine.specs.Answers.{Answer}
+use Rattle.event_expand.specs.Systems.{system_of}
+use Rattle.report_writer.specs.RulesText.{rules_text}
+use Rattle.report_writer.specs.declared.faults.FaultLine.TheVariants.{Usage, Library, NetSyntax, NetStatement, NoRoot, TooManyRules, ReadFault, TooLong}
+use Rattle.engine.specs.declared.command.Task.{Task}
+use Rattle.engine.specs.declared.command.Task.TheVariants.{Expand, Analyze}
+use Rattle.engine.specs.declared.faults.Fault.TheVariants.{Line, Memory}
 use Rattle.engine.specs.Commands.{Command, command_of}
-use Rattle.engine.specs.RulesText.{rules_text}
+use Rattle.engine.specs.Findings.{Finding, Printed, Analysed, whole_line}
 
 -- the most rules of a system
 abbrev pub most_rules : ℕ
 most_rules = 131072
 
 -- the rules printed, unless there are too many
-abbrev pub answer_of_circuit : List Cell → Circuit → Answer
-answer_of_circuit library c =
-    if nat_le (length (rules_of library c)) most_rules then Ok (rules_text c.nets (system_rules library c))
-    else Err (TooManyRules (length (rules_of library c)))
+abbrev pub expanded : List Cell → Circuit → Finding
+expanded library c =
+    if nat_le (length (rules_of library c)) most_rules then Ok (Printed (rules_text c (system_of library c)))
+    else Err (Line (TooManyRules (length (rules_of library c))))
+
+-- a netlist to be analysed from its root
+abbrev pub rooted : List Cell → Circuit → Option ℕ → Finding
+rooted library c (Some root) = Ok (Analysed library c root)
+rooted library c None = Err (Line NoRoot)
+
+-- the first fault of a netlist that is not whole, or what is to be analysed
+abbrev pub judged : List Cell → Circuit → Option WholeFault → Finding
+judged library c (Some fault) = Err (Line (whole_line c fault))
+judged library c None = rooted library c c.root
+
+-- what a command makes of a netlist
+abbrev pub circuit_finding : Task → List Cell → Circuit → Finding
+circuit_finding Expand library c = expanded library c
+circuit_finding Analyze library c = judged library c (whole_of library c)
 
 -- a netlist that is read, or its first refused line
-abbrev pub answer_of_netlist : List Cell → Result Circuit NetFault → Answer
-answer_of_netlist library (Ok c) = answer_of_circuit library c
-answer_of_netlist library (Err (net.Syntax line)) = Err (NetSyntax line)
-answer_of_netlist library (Err (net.Statement line e)) = Err (NetStatement line e)
-answer_of_netlist library (Err net.Memory) = Err Memory
+abbrev pub read_finding : Task → List Cell → Result Circuit NetFault → Finding
+read_finding task library (Ok c) = circuit_finding task library c
+read_finding task library (Err (net.Syntax line)) = Err (Line (NetSyntax line))
+read_finding task library (Err (net.Statement line e)) = Err (Line (NetStatement line e))
+read_finding task library (Err net.Memory) = Err Memory
 
 -- what a netlist's bytes come to over a library
-unfoldable pub netlist_answer : List Cell → List ℕ → Answer
-netlist_answer library bytes = answer_of_netlist library (netlist_of library bytes)
+unfoldable pub netlist_finding : Task → List Cell → List ℕ → Finding
+netlist_finding task library bytes = read_finding task library (netlist_of library bytes)
 
 -- what the bytes under a name come to: none there, too many of them, or what is next
-abbrev pub read_then : List ℕ → (List ℕ → Answer) → Option (List ℕ) → Answer
-read_then name next None = Err (Read name)
-read_then name next (Some bytes) = if nat_le (length bytes) file_limit then next bytes else Err (TooLong name)
+abbrev pub read_then : List ℕ → (List ℕ → Finding) → Option (List ℕ) → Finding
+read_then name next None = Err (Line (ReadFault name))
+read_then name next (Some bytes) = if nat_le (length bytes) file_limit then next bytes else Err (Line (TooLong name))
 
 -- the library refused, or what is next
-abbrev pub judge_then : (List Cell → Answer) → Result (List Cell) LibraryFault → Answer
+abbrev pub judge_then : (List Cell → Finding) → Result (List Cell) LibraryFault → Finding
 judge_then next (Ok library) = next library
-judge_then next (Err e) = Err (Library e)
+judge_then next (Err e) = Err (Line (Library e))
 
 -- the second file is read once the first is accepted
-abbrev pub netlist_verdict : Files → Command → List Cell → Answer
-netlist_verdict files command library = read_then command.netlist (netlist_answer library) (map.get files command.netlist)
+abbrev pub netlist_verdict : Files → Command → List Cell → Finding
+netlist_verdict files command library = read_then command.netlist (netlist_finding command.task library) (map.get files command.netlist)
 
 -- what the library's bytes come to
-abbrev pub library_verdict : Files → Command → List ℕ → Answer
+abbrev pub library_verdict : Files → Command → List ℕ → Finding
 library_verdict files command bytes = judge_then (netlist_verdict files command) (library_of bytes)
 
 -- words that are no command are refused; else the first file is read
-abbrev pub command_verdict : Files → Option Command → Answer
-command_verdict files None = Err Usage
+abbrev pub command_verdict : Files → Option Command → Finding
+command_verdict files None = Err (Line Usage)
 command_verdict files (Some command) = read_then command.library (library_verdict files command) (map.get files command.library)
 
--- the first refusal on the way, or the text of the rules
-abbrev pub verdict : List (List ℕ) → Files → Answer
+-- the first refusal on the way, or a yes
+abbrev pub verdict : List (List ℕ) → Files → Finding
 verdict words files = command_verdict files (command_of words)

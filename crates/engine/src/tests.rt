@@ -5,7 +5,7 @@ use std::alloc::{AllocError, Global};
 use std::test::Fail;
 use std::thread::Threads;
 
-const LIBRARY: &str =
+pub(crate) const LIBRARY: &str =
     "[cell.BUF]\ninputs = [\"A\"]\noutput = \"Z\"\narcs = [{ from = \"A\", sense = \"pos\", rise = 9, fall = 8 }]\n[cell.INV]\ninputs = [\"A\"]\noutput = \"Z\"\narcs = [{ from = \"A\", sense = \"neg\", rise = 12, fall = 10 }]\n[cell.NOR2]\ninputs = [\"A\", \"B\"]\noutput = \"Z\"\narcs = [{ from = \"A\", sense = \"neg\", rise = 12, fall = 10 }, { from = \"B\", sense = \"neg\", rise = 12, fall = 10 }]\n[cell.X1]\ninputs = [\"A\"]\noutput = \"Z\"\narcs = [{ from = \"A\", sense = \"non\", rise = 7, fall = 5 }]\n";
 
 /// Three inverters in a ring, in the writing of the tables.
@@ -120,7 +120,16 @@ expand lib.toml a\u{1f}b => fault: usage|
 expand lib.toml a\u{7f} => fault: usage|
 expand lib.toml bare.net bare.net => fault: usage|
 expand lib.toml bare.net --workers 1 => fault: usage|
-analyze lib.toml bare.net => fault: usage|
+analyze lib.toml bare.net => fault: netlist H2|
+analyze => fault: usage|
+analyze lib.toml => fault: usage|
+analyze lib.toml bare.net --workers 1 => fault: usage|
+analyze lib.toml bare.net bare.net => fault: usage|
+analyze lib.toml - => fault: usage|
+analyze none.toml bare.net => fault: read none.toml|
+analyze lib.toml none.net => fault: read none.net|
+analyze bare.net none.net => fault: library L1|
+Analyze lib.toml bare.net => fault: usage|
 serve lib.toml bare.net a.txt => fault: usage|
 expand none.toml bare.net => fault: read none.toml|
 expand lib.toml none.net => fault: read none.net|
@@ -149,7 +158,7 @@ fn byte_of(letter: u8) -> u8 {
 }
 
 /// Adds the bytes that the writing of the tables stands for.
-fn push_written(bytes: &mut Vec<u8>, text: &str) -> Result<(), AllocError> {
+pub(crate) fn push_written(bytes: &mut Vec<u8>, text: &str) -> Result<(), AllocError> {
     for letter in text.bytes() {
         bytes.push(byte_of(letter))?;
     }
@@ -157,7 +166,12 @@ fn push_written(bytes: &mut Vec<u8>, text: &str) -> Result<(), AllocError> {
 }
 
 /// The bytes of a text that begins with a short name of one of two texts, or with none.
-fn bytes_of(alloc: Global, text: &str, bare: &str, ring: &str) -> Result<Vec<u8>, AllocError> {
+pub(crate) fn bytes_of(
+    alloc: Global,
+    text: &str,
+    bare: &str,
+    ring: &str,
+) -> Result<Vec<u8>, AllocError> {
     let mut bytes = Vec::new(alloc);
     match (text.strip_prefix("$"), text.strip_prefix("%")) {
         (Some(rest), _) => {
@@ -174,19 +188,19 @@ fn bytes_of(alloc: Global, text: &str, bare: &str, ring: &str) -> Result<Vec<u8>
 }
 
 /// The bytes of a netlist of the tables.
-fn netlist_bytes(alloc: Global, text: &str) -> Result<Vec<u8>, AllocError> {
+pub(crate) fn netlist_bytes(alloc: Global, text: &str) -> Result<Vec<u8>, AllocError> {
     let ring = format!(in alloc; "{BARE}{TOKEN}")?;
     bytes_of(alloc, text, BARE, ring.as_str())
 }
 
 /// The bytes of a text that the tables want.
-fn wanted_bytes(alloc: Global, text: &str) -> Result<Vec<u8>, AllocError> {
+pub(crate) fn wanted_bytes(alloc: Global, text: &str) -> Result<Vec<u8>, AllocError> {
     bytes_of(alloc, text, BARE_RULES, RING_RULES)
 }
 
 /// The status of a written text, by its front.
 fn status_of(text: &[u8]) -> u8 {
-    if text.starts_with(b"events") {
+    if text.starts_with(b"events") || text.starts_with(b"period") {
         0
     } else if text.starts_with(b"fault: usage") {
         2
@@ -199,9 +213,9 @@ fn status_of(text: &[u8]) -> u8 {
     }
 }
 
-const ROOM: usize = 8_388_608;
+pub(crate) const ROOM: usize = 8_388_608;
 
-fn file(alloc: Global, name: &str, bytes: &[u8]) -> Result<NamedFile, AllocError> {
+pub(crate) fn file(alloc: Global, name: &str, bytes: &[u8]) -> Result<NamedFile, AllocError> {
     Ok(NamedFile {
         name: Text::of(alloc, name.as_bytes())?,
         bytes: Text::of(alloc, bytes)?,
@@ -210,7 +224,7 @@ fn file(alloc: Global, name: &str, bytes: &[u8]) -> Result<NamedFile, AllocError
     })
 }
 
-fn words(alloc: Global, line: &str) -> Result<Vec<String>, AllocError> {
+pub(crate) fn words(alloc: Global, line: &str) -> Result<Vec<String>, AllocError> {
     let mut words = Vec::new(alloc);
     for word in line.split(' ') {
         words.push(String::from_str(alloc, word)?)?;
@@ -226,7 +240,7 @@ fn files(alloc: Global, library: &[u8], netlist: &[u8]) -> Result<Vec<NamedFile>
     Ok(files)
 }
 
-fn run<R: Threads + Sync>(
+pub(crate) fn run<R: Threads + Sync>(
     rt: &R,
     alloc: Global,
     line: &str,
@@ -257,7 +271,7 @@ fn expand<R: Threads + Sync>(
 }
 
 /// Whether this was written, with its status and nothing else.
-fn is_written(outcome: &Outcome, sink: &MemSink, wanted: &[u8]) -> bool {
+pub(crate) fn is_written(outcome: &Outcome, sink: &MemSink, wanted: &[u8]) -> bool {
     sink.bytes() == wanted && outcome.status == status_of(wanted) && outcome.order.list().is_empty()
 }
 
@@ -359,7 +373,7 @@ fn the_longest_file(rt: HostRuntime) -> Result<(), Fail> {
 }
 
 // A library of one cell with 16 inputs, each of which has an arc of sense `non`.
-fn wide_library(alloc: Global) -> Result<String, AllocError> {
+pub(crate) fn wide_library(alloc: Global) -> Result<String, AllocError> {
     let mut text = String::from_str(
         alloc,
         "[cell.INV]\ninputs = [\"A\"]\noutput = \"Z\"\narcs = [{ from = \"A\", sense = \"neg\", rise = 12, fall = 10 }]\n[cell.N16]\noutput = \"Z\"\ninputs = [",
@@ -378,7 +392,7 @@ fn wide_library(alloc: Global) -> Result<String, AllocError> {
 }
 
 // A ring of 2,048 such cells.
-fn wide_ring(alloc: Global) -> Result<String, AllocError> {
+pub(crate) fn wide_ring(alloc: Global) -> Result<String, AllocError> {
     let mut text = String::new(alloc);
     for j in 0..2048u32 {
         text.push_str(format!(in alloc; "net m{j}\n")?.as_str())?;

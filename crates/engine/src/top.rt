@@ -1,9 +1,8 @@
 //! The top call.
-ghost use Rattle.std.specs.Prelude.{◌≡◌, ◌≤◌, ◌<◌, ◌⊎◌, [], map, None, Err, IfSome, IsOk};
+ghost use Rattle.std.specs.Prelude.{◌≡◌, ◌≤◌, ◌<◌, ◌⊎◌, [], map, None, Err, IfSome};
 ghost use Rattle.std.specs.String.{string_bytes};
 ghost use Rattle.std.specs.Io.KnownBytes.{Keeps};
 ghost use Rattle.cyc_port.specs.Counts.{Rose};
-ghost use Rattle.engine.specs.Answers.{RefusesLibrary, RefusesNetlist};
 ghost use Rattle.engine.specs.Commands.{command_of};
 ghost use Rattle.engine.specs.Runs as spec;
 ghost use Rattle.engine.specs.Verdict.{verdict};
@@ -18,7 +17,7 @@ use std::thread::Threads;
 
 /// Does what the words ask for, over the files of the shelf, and writes its text, or the line of a fault, to the sink.
 ///
-/// The words are `expand LIB NET`. Each file is read and judged before the next is opened.
+/// The words are `expand LIB NET` or `analyze LIB NET`. Each file is read and judged before the next is opened.
 pub fn answer<R: Threads + Sync, F: Shelf, K: Sink, G: Gate + Sync>(
     rt: &R,
     alloc: Global,
@@ -41,16 +40,16 @@ pub fn answer<R: Threads + Sync, F: Shelf, K: Sink, G: Gate + Sync>(
     ensures memory { result.status ≡ 8 → Keeps (K.written sink.old) (K.written sink.new) }
     ensures known { result.status ≤ 8 }
 
-    // Over told files and with no fault: the verdict, or want of memory.
+    // Over told files and with no fault: the answer to the verdict, or want of memory.
     ensures complete { spec.HadNoFault
         (spec.run_of (map string_bytes words.now) (F.files shelf.old) (F.faults shelf.old) (F.faults shelf.new) (F.long_reads shelf.old) (F.long_reads shelf.new))
         → ¬ Rose (K.faults sink.old) (K.faults sink.new)
         → IfSome (F.files shelf.old) (λ files. spec.IsDone (verdict (map string_bytes words.now) files) result.status (K.written sink.old) (K.written sink.new)) }
 
     // Over told files, whatever the counts.
-    ensures done { result.status ≡ 0 → IfSome (F.files shelf.old) (λ files. IsOk (verdict (map string_bytes words.now) files)) }
-    ensures library { result.status ≡ 3 → IfSome (F.files shelf.old) (λ files. RefusesLibrary (verdict (map string_bytes words.now) files)) }
-    ensures netlist { result.status ≡ 4 → IfSome (F.files shelf.old) (λ files. RefusesNetlist (verdict (map string_bytes words.now) files)) }
+    ensures done { result.status ≡ 0 → IfSome (F.files shelf.old) (λ files. spec.HasStatus (verdict (map string_bytes words.now) files) 0) }
+    ensures library { result.status ≡ 3 → IfSome (F.files shelf.old) (λ files. spec.HasStatus (verdict (map string_bytes words.now) files) 3) }
+    ensures netlist { result.status ≡ 4 → IfSome (F.files shelf.old) (λ files. spec.HasStatus (verdict (map string_bytes words.now) files) 4) }
 
     // By the words alone.
     ensures usage { result.status ≡ 2 → command_of (map string_bytes words.now) ≡ None }
@@ -86,16 +85,16 @@ pub fn cyclone<R: Threads + Sync, F: Shelf, K: Sink, G: Gate + Sync>(
     ensures memory { result.status ≡ 8 → Keeps (K.written sink.old) (K.written sink.new) }
     ensures known { result.status ≤ 8 }
 
-    // Over told files and with no fault: the verdict, or want of memory.
+    // Over told files and with no fault: the answer to the verdict, or want of memory.
     ensures complete { spec.HadNoFault
         (spec.run_of (map string_bytes words.now) (F.files shelf.old) (F.faults shelf.old) (F.faults shelf.new) (F.long_reads shelf.old) (F.long_reads shelf.new))
         → ¬ Rose (K.faults sink.old) (K.faults sink.new)
         → IfSome (F.files shelf.old) (λ files. spec.IsDone (verdict (map string_bytes words.now) files) result.status (K.written sink.old) (K.written sink.new)) }
 
     // Over told files, whatever the counts.
-    ensures done { result.status ≡ 0 → IfSome (F.files shelf.old) (λ files. IsOk (verdict (map string_bytes words.now) files)) }
-    ensures library { result.status ≡ 3 → IfSome (F.files shelf.old) (λ files. RefusesLibrary (verdict (map string_bytes words.now) files)) }
-    ensures netlist { result.status ≡ 4 → IfSome (F.files shelf.old) (λ files. RefusesNetlist (verdict (map string_bytes words.now) files)) }
+    ensures done { result.status ≡ 0 → IfSome (F.files shelf.old) (λ files. spec.HasStatus (verdict (map string_bytes words.now) files) 0) }
+    ensures library { result.status ≡ 3 → IfSome (F.files shelf.old) (λ files. spec.HasStatus (verdict (map string_bytes words.now) files) 3) }
+    ensures netlist { result.status ≡ 4 → IfSome (F.files shelf.old) (λ files. spec.HasStatus (verdict (map string_bytes words.now) files) 4) }
 
     // By the words alone.
     ensures usage { result.status ≡ 2 → command_of (map string_bytes words.now) ≡ None }

@@ -5,11 +5,11 @@ ghost use Rattle.cyc_port.specs.Counts.{Rose};
 ghost use Rattle.cyc_port.specs.Written.{AppendsFront};
 ghost use Rattle.engine.specs.Answers.{status_of, text_of};
 
-use crate::fault_lines::fault_line;
 use crate::faults::{Fault, status};
 use crate::outcome::{Order, Outcome};
 use cyc_port::Sink;
 use cyc_text::Text;
+use report_writer::fault_text;
 use std::alloc::Global;
 
 /// The outcome of a command without sessions.
@@ -54,8 +54,8 @@ pub(crate) fn write_answer<K: Sink>(
     match answer {
         Ok(text) => write_text(alloc, status, text.bytes(), sink),
         Err(Fault::Memory) => ended(alloc, 8),
-        Err(fault) => match fault_line(alloc, fault) {
-            Ok(line) => write_text(alloc, status, &line, sink),
+        Err(Fault::Line(line)) => match fault_text(alloc, line) {
+            Ok(text) => write_text(alloc, status, text.bytes(), sink),
             Err(_) => ended(alloc, 8),
         },
     }

@@ -16,6 +16,7 @@ use Rattle.netlist_model.specs.declared.parts.Instance.{Instance}
 use Rattle.netlist_model.specs.Expansion as netlist
 use Rattle.rule_system.specs.declared.rules.Rule.{Rule}
 use Rattle.event_expand.specs.Pieces.{Holds, Grows, rules_at}
+use Rattle.rule_system.specs.Bounds.{EventRules}
 use Rattle.event_expand.specs.Systems.{system_rule, system_rules}
 
 abbrev Piece : Type 0
@@ -73,3 +74,8 @@ pub joined : (library : List Cell) (c : Circuit) (pieces shown : List (Vec Rule 
     → rules ≡ system_rules library c
 joined library c pieces shown rules same all copied =
     AllZip-map (λ r. r) (flat_map (λ v. v.items) shown) rules copied ∙ map-id (flat_map (λ v. v.items) shown) ∙ ap (flat_map (λ v. v.items)) same ∙ all
+
+-- systems of the same events and rules
+pub same_system : (events others : ℕ) (rules some : List Rule) → events ≡ others → rules ≡ some
+    → let one : EventRules = record { events = events; rules = rules } in let other : EventRules = record { events = others; rules = some } in one ≡ other
+same_system events others rules some e r = rw (e, r) refl

@@ -4,7 +4,7 @@ ghost use Rattle.std.specs.List.{flat_map};
 ghost use Rattle.netlist_model.specs.Expansion.{rules_of};
 ghost use Rattle.netlist_model.specs.Sound.{Fits, IsNetlist};
 ghost use Rattle.event_expand.specs.Pieces.{Holds, Grows, rules_at};
-ghost use Rattle.event_expand.specs.Systems.{system_rules};
+ghost use Rattle.event_expand.specs.Systems.{system_of, system_rules};
 
 use crate::instances::push_instance;
 use cell_arcs::Library;
@@ -70,8 +70,7 @@ pub fn expand<R: Threads + Sync>(
 ) -> Result<System, AllocError>
     requires fits { Fits library.now net.now.insts }
     requires few { length (rules_of library.now net.now) ≤ 131072 }
-    ensures events { IfOk result (λ system. system.events ≡ 2 * length net.now.nets) }
-    ensures rules { IfOk result (λ system. system.rules ≡ system_rules library.now net.now) }
+    ensures { IfOk result (λ system. system ≡ system_of library.now net.now) }
 {
     let events = 2 * net.net_count() as u32;
     // What the count says of a library's cells bounds the delays.

@@ -1,5 +1,5 @@
 -- The first place that passes a test.
-use Rattle.std.proofs.Common.{◌≡◌, ℕ, ◌+◌, ◌<◌, ◌≤◌, List, [], ◌∷◌, ◌++◌, ◌||◌, length, map, get_or, suc, zero, slice_get, Bool, true, false, cond, eqb, ltb, Option, Some, None, option_map, position, refl, sym, ap, ◌∙◌, arith, if◌then◌else◌, length-append, add-one}
+use Rattle.std.proofs.Common.{◌≡◌, ℕ, ◌+◌, ◌<◌, ◌≤◌, List, [], ◌∷◌, ◌++◌, ◌||◌, length, map, get_or, suc, zero, slice_get, Bool, true, false, cond, eqb, ltb, Option, Some, None, option_map, unwrap_or, position, refl, sym, ap, ◌∙◌, arith, if◌then◌else◌, length-append, add-one}
 use Rattle.std.specs.List.{list_any, position_or_len}
 use Rattle.std.specs.Str.{bytes_eq}
 use Rattle.std.proofs.lemmas.List.{length-map}
@@ -8,6 +8,7 @@ use Rattle.std.proofs.lemmas.List.Quantifiers.{position-Some}
 use Rattle.std.proofs.lemmas.Bool.Decides.{nat_tests}
 use Rattle.std.proofs.lemmas.Grind.{common_steps}
 use Rattle.netlist_model.specs.Circuit.{or_else}
+use Rattle.netlist_model.specs.EventNames.{name_at}
 
 pub position_or_len-map : {A B : Type 0} (f : A → B) (p : B → Bool) (xs : List A) → position_or_len p (map f xs) ≡ position_or_len (λ x. p (f x)) xs
 position_or_len-map f p [] = refl
@@ -69,3 +70,7 @@ pub stands : {A : Type 0} (xs : List A) (k : ℕ) → k < length xs → (x : A) 
 stands [] k h = absurd (omega arith)
 stands (x ∷ xs) zero h = (x, refl)
 stands (x ∷ xs) (suc k) h = stands xs k (omega arith)
+
+-- the name that stands at a place
+pub name_stands : (names : List (List ℕ)) (at : ℕ) (name : List ℕ) → slice_get names at ≡ Some name → name_at names at ≡ name
+name_stands names at name h = rw h refl

@@ -1,6 +1,7 @@
 pub mod ArcRules
 pub mod Blocks
 pub mod Circuit
+pub mod EventNames
 pub mod Edits
 pub mod Statements
 pub mod Expansion

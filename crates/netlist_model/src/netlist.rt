@@ -1,9 +1,10 @@
-ghost use Rattle.std.specs.Prelude.{◌≡◌, ◌≢◌, ◌<◌, ◌*◌, ◌++◌, ◌∷◌, [], None, Some, true, position, Ok, Err, IfOk, IfErr, IfSome, List, OnErr, OnOk, length, map, option_map, slice_get};
+ghost use Rattle.std.specs.Prelude.{◌≡◌, ◌≢◌, ◌<◌, ◌≤◌, ◌*◌, ◌++◌, ◌∷◌, [], None, Some, true, position, Ok, Err, IfOk, IfErr, IfSome, IsSome, List, OnErr, OnOk, length, map, option_map, slice_get};
 ghost use Rattle.std.specs.List.{flat_map};
 ghost use Rattle.cell_arcs.specs.declared.cells.Cell.{Cell};
 ghost use Rattle.std.specs.Str.{bytes_eq};
 ghost use Rattle.cyc_text.specs.Name as names;
 ghost use Rattle.netlist_model.specs.Circuit.{driver_of, event_at, event_of, fork_of, last_of, place_of};
+ghost use Rattle.netlist_model.specs.EventNames as event_names;
 ghost use Rattle.netlist_model.specs.Expansion.{offset_of, rules_of};
 ghost use Rattle.netlist_model.specs.Sound.{Fits, FitsCell, IsInstance, IsNetlist};
 ghost use Rattle.netlist_model.specs.Statements as spec;
@@ -185,6 +186,17 @@ impl Netlist {
         }
     }
 
+    /// The name of an event: its net's, and `+` where the event is a rise or `-` where it is a fall.
+    #[tactic(auto, unfolding(crate::specs::EventNames::event_name), using(crate::proofs::Places::name_stands))]
+    pub fn event_name(&self, event: u32) -> Result<Text, AllocError>
+        requires { event < 2 * length self.now.nets }
+        ensures { IfOk result (λ name. name ≡ event_names.event_name self.now.nets event) }
+    {
+        let mut name = Vec::from_slice(self.alloc, self.net_name((event / 2) as usize))?;
+        name.push(if event % 2 == 0 { b'+' } else { b'-' })?;
+        Text::of(self.alloc, &name)
+    }
+
     /// The place of the fork of a name.
     pub fn fork_at(&self, name: &[u8]) -> Option<usize>
         ensures { result ≡ fork_of self.now.forks name.now }
@@ -232,6 +244,8 @@ impl Netlist {
         requires { Fits library.now self.now.insts }
         ensures ok { IfOk result (λ _. whole_of library.now self.now ≡ None) }
         ensures refused { IfErr result (λ e. whole_of library.now self.now ≡ Some e) }
+        ensures rooted { IfOk result (λ _. IsSome self.now.root) }
+        ensures few { IfOk result (λ _. length (rules_of library.now self.now) ≤ 131072) }
     {
         self.check_nets()?;
         if self.root.is_none() {

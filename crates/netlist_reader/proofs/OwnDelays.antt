@@ -10,13 +10,14 @@ use Rattle.cyc_text.specs.Name.{is_name}
 use Rattle.cell_arcs.specs.IsLibrary.{IsLibrary, IsCell, IsArc}
 use Rattle.cell_arcs.specs.declared.cells.Cell.{Cell}
 use Rattle.cell_arcs.specs.declared.cells.CellArc.{CellArc}
+use Rattle.netlist_model.specs.EventNames.{name_at}
 use Rattle.netlist_model.specs.Circuit.{Circuit, inst_of}
 use Rattle.netlist_model.specs.Sound.{AreNames, IsOwnDelay, IsInstance, IsNetlist, IsOfLibrary, Fits}
 use Rattle.netlist_model.specs.Statements.{set_delay, arc_of, cell_at, with_delay}
 use Rattle.netlist_model.specs.declared.edits.Edit.TheVariants.{Delay}
 use Rattle.netlist_model.specs.declared.parts.Delay.{Delay as OwnDelay}
 use Rattle.netlist_model.specs.declared.parts.Instance.{Instance}
-use Rattle.netlist_reader.specs.Canonical.{name_at, delay_line, delay_lines, delay_lines_of}
+use Rattle.netlist_reader.specs.Canonical.{delay_line, delay_lines, delay_lines_of}
 use Rattle.netlist_reader.specs.NetlistFiles.{stated}
 use Rattle.netlist_reader.proofs.Bytes.{EachSolid, name_solid, number_solid}
 use Rattle.netlist_reader.proofs.Instances.{bare, all_get}

@@ -8,6 +8,7 @@ use Rattle.std.proofs.lemmas.List.{append-nil, length_push, length-append, take_
 use Rattle.std.proofs.lemmas.List.Elements.{All-head, All-tail}
 use Rattle.cyc_text.specs.Name.{is_name, is_name_byte}
 use Rattle.cell_arcs.specs.declared.cells.Cell.{Cell}
+use Rattle.netlist_model.specs.EventNames.{name_at}
 use Rattle.netlist_model.specs.Circuit.{Circuit, ref_of}
 use Rattle.netlist_model.specs.Sound.{AreNames, IsPin, IsNetlist}
 use Rattle.netlist_model.specs.Statements.{word_fault, pin_fault, wire_of, wires_of}
@@ -16,7 +17,7 @@ use Rattle.netlist_model.specs.declared.parts.Instance.{Instance}
 use Rattle.netlist_model.specs.declared.parts.NetRef.{NetRef}
 use Rattle.netlist_model.specs.declared.parts.NetRef.TheVariants.{Net, Const}
 use Rattle.netlist_model.specs.declared.parts.PinNet.{PinNet}
-use Rattle.netlist_reader.specs.Canonical.{name_at, ref_name, pin_names, inst_line_of}
+use Rattle.netlist_reader.specs.Canonical.{ref_name, pin_names, inst_line_of}
 use Rattle.netlist_reader.specs.EditLines.{is_equals, pin_word, pin_words, edit_of}
 use Rattle.netlist_reader.proofs.Bytes.{IsSolid, EachSolid, high-append, name_solid}
 use Rattle.netlist_reader.proofs.Lists.{around, same_bytes, position_none, position_at, find_at, place_is, one_more, list_any-map}

@@ -2,12 +2,13 @@
 use Rattle.std.proofs.Common.{◌≡◌, ℕ, ◌-◌, ◌≤◌, ◌/◌, ◌%◌, List, [], ◌∷◌, ◌++◌, length, Bool, true, false, Some, refl, arith, if◌then◌else◌}
 use Rattle.std.specs.Prelude.{◌==◌, codes}
 use Rattle.std.proofs.lemmas.List.{length_push, take_at}
+use Rattle.netlist_model.specs.EventNames.{name_at, edge_byte, event_name}
 use Rattle.netlist_model.specs.declared.edits.Edit.TheVariants.{Net, Const, Delay, Tick, Root, Fork}
 use Rattle.netlist_model.specs.declared.parts.Delay.{Delay as OwnDelay}
 use Rattle.netlist_model.specs.declared.parts.EventName.{EventName}
 use Rattle.netlist_model.specs.declared.parts.Fork.{Fork as ForkPart}
 use Rattle.netlist_model.specs.declared.parts.Tick.{Tick as TickPart}
-use Rattle.netlist_reader.specs.Canonical.{name_at, edge_byte, event_name, net_line, const_line, delay_line, tick_line, fork_line}
+use Rattle.netlist_reader.specs.Canonical.{net_line, const_line, delay_line, tick_line, fork_line}
 use Rattle.netlist_reader.specs.EditLines.{edge_of, event_word, edit_of}
 use Rattle.netlist_reader.proofs.Bytes.{number_read}
 use Rattle.netlist_reader.proofs.Lists.{get_middle}

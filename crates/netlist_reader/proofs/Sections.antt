@@ -12,6 +12,7 @@ use Rattle.std.proofs.lemmas.List.Elements.{All-head, All-tail}
 use Rattle.std.proofs.lemmas.Option.{slice_get-get_or, unwrap_or-slice_get}
 use Rattle.cyc_text.specs.Name.{is_name}
 use Rattle.cell_arcs.specs.declared.cells.Cell.{Cell}
+use Rattle.netlist_model.specs.EventNames.{name_at, edge_byte, event_name}
 use Rattle.netlist_model.specs.Circuit.{Circuit, event_at, event_of, place_of, fork_of, is_between, tick_of, roots_of, kinds_after}
 use Rattle.netlist_model.specs.Sound.{AreNames, IsTick, IsFork}
 use Rattle.netlist_model.specs.Statements.{add_net, add_const, set_tick, start_tick, set_root, add_fork, add_fork_of}
@@ -19,7 +20,7 @@ use Rattle.netlist_model.specs.declared.edits.Edit.TheVariants.{Net, Const, Tick
 use Rattle.netlist_model.specs.declared.parts.Fork.{Fork as ForkPart}
 use Rattle.netlist_model.specs.declared.parts.Instance.{Instance}
 use Rattle.netlist_model.specs.declared.parts.Tick.{Tick as TickPart}
-use Rattle.netlist_reader.specs.Canonical.{name_at, edge_byte, event_name, net_line, const_line, tick_line, root_lines, fork_line}
+use Rattle.netlist_reader.specs.Canonical.{net_line, const_line, tick_line, root_lines, fork_line}
 use Rattle.netlist_reader.specs.NetlistFiles.{stated}
 use Rattle.netlist_reader.proofs.Bytes.{IsSolid, EachSolid, high-append, name_solid, number_solid}
 use Rattle.netlist_reader.proofs.Leads.{Leads}

@@ -5,12 +5,13 @@ use Rattle.std.proofs.lemmas.List.{drop_more, drop_all, append-nil}
 use Rattle.std.specs.List.{join_with_byte, flat_map}
 use Rattle.cell_arcs.specs.declared.cells.Cell.{Cell}
 use Rattle.cell_arcs.specs.declared.cells.CellArc.{CellArc}
+use Rattle.netlist_model.specs.EventNames.{name_at}
 use Rattle.netlist_model.specs.Circuit.{Circuit}
 use Rattle.netlist_model.specs.Sound.{Fits, IsInstance, IsNetlist, IsOfLibrary, IsPin}
 use Rattle.netlist_model.specs.declared.parts.Delay.{Delay}
 use Rattle.netlist_model.specs.declared.parts.Instance.{Instance}
 use Rattle.netlist_model.specs.declared.parts.NetRef.{NetRef}
-use Rattle.netlist_reader.specs.Canonical.{name_at, pin_name, pin_names, inst_line, inst_line_of, arc_lines, delay_line, delay_lines, delay_lines_of, lines_text}
+use Rattle.netlist_reader.specs.Canonical.{pin_name, pin_names, inst_line, inst_line_of, arc_lines, delay_line, delay_lines, delay_lines_of, lines_text}
 use Rattle.netlist_reader.specs.Pieces.{ended, line_text}
 
 -- the name that stands at a place

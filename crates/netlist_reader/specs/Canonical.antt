@@ -1,11 +1,12 @@
 -- The canonical text of a netlist: a line for each part, each line its words with one space between each two.
-use Rattle.std.specs.Prelude.{◌==◌, ◌/◌, ◌%◌, ℕ, if◌then◌else◌, List, [], ◌∷◌, ◌++◌, map, slice_get, Option, Some, None, unwrap_or, codes, decimal}
+use Rattle.std.specs.Prelude.{ℕ, List, [], ◌∷◌, ◌++◌, map, slice_get, Option, Some, None, codes, decimal}
 use Rattle.std.specs.List.{flat_map, join_with_byte}
 use Rattle.std.specs.Option.{option_map_or}
 use Rattle.cyc_text.specs.ReadBack.{written_lines}
 use Rattle.cell_arcs.specs.declared.cells.Cell.{Cell}
 use Rattle.cell_arcs.specs.declared.cells.CellArc.{CellArc}
 use Rattle.netlist_model.specs.Circuit.{Circuit}
+use Rattle.netlist_model.specs.EventNames.{name_at, event_name}
 use Rattle.netlist_model.specs.declared.parts.Delay.{Delay}
 use Rattle.netlist_model.specs.declared.parts.Fork.{Fork}
 use Rattle.netlist_model.specs.declared.parts.Instance.{Instance}
@@ -13,22 +14,10 @@ use Rattle.netlist_model.specs.declared.parts.NetRef.{NetRef}
 use Rattle.netlist_model.specs.declared.parts.NetRef.TheVariants.{Net, Const}
 use Rattle.netlist_model.specs.declared.parts.Tick.{Tick}
 
--- the name at a place of a list of names
-abbrev pub name_at : List (List ℕ) → ℕ → List ℕ
-name_at names at = unwrap_or (slice_get names at) []
-
 -- the name of a net or a constant
 abbrev pub ref_name : List (List ℕ) → List (List ℕ) → NetRef → List ℕ
 ref_name nets consts (Net n) = name_at nets n
 ref_name nets consts (Const k) = name_at consts k
-
--- '+' (43) where the event is a rise, '-' (45) where it is a fall
-abbrev pub edge_byte : ℕ → ℕ
-edge_byte event = if event % 2 == 0 then 43 else 45
-
--- `NET+` or `NET-`
-unfoldable pub event_name : List (List ℕ) → ℕ → List ℕ
-event_name nets event = name_at nets (event / 2) ++ edge_byte event ∷ []
 
 -- `PIN=NET`
 abbrev pub pin_name : List (List ℕ) → List (List ℕ) → List ℕ → NetRef → List ℕ

@@ -2,6 +2,7 @@
 ghost use Rattle.std.specs.Prelude.{◌≡◌, ◌+◌, ◌++◌, ◌∷◌, ◌<◌, ◌*◌, [], All, IfOk, OnOk, Ok, Some, decimal, length, map, slice_get};
 ghost use Rattle.std.specs.List.{flat_map};
 ghost use Rattle.cell_arcs.specs.IsLibrary.{IsCell};
+ghost use Rattle.netlist_model.specs.EventNames.{event_name};
 ghost use Rattle.netlist_model.specs.Sound.{Fits, FitsCell, IsFork, IsInstance, IsOfLibrary, IsPin, IsTick};
 ghost use Rattle.netlist_reader.specs.Canonical as spec;
 ghost use Rattle.netlist_reader.specs.NetlistFiles.{netlist_of};
@@ -72,10 +73,10 @@ fn push_number(text: &mut Vec<u8>, number: u32) -> Result<(), AllocError>
 }
 
 /// Adds a space and an event's name.
-#[tactic(auto, unfolding(crate::specs::Canonical::event_name), using(crate::proofs::Texts::name_is))]
+#[tactic(auto, unfolding(netlist_model::specs::EventNames::event_name), using(crate::proofs::Texts::name_is))]
 fn push_event(text: &mut Vec<u8>, net: &Netlist, event: u32) -> Result<(), AllocError>
     requires { event < 2 * length net.now.nets }
-    ensures { OnOk result (text.new.items ≡ text.old.items ++ 32 ∷ spec.event_name net.now.nets event) }
+    ensures { OnOk result (text.new.items ≡ text.old.items ++ 32 ∷ event_name net.now.nets event) }
 {
     push_word(text, net.net_name((event / 2) as usize))?;
     text.push(if event % 2 == 0 { b'+' } else { b'-' })?;
@@ -204,7 +205,7 @@ fn push_tick(text: &mut Vec<u8>, net: &Netlist, tick: Tick) -> Result<(), AllocE
 /// Adds a space and an event's name for each event of a fork.
 fn push_events(text: &mut Vec<u8>, net: &Netlist, fork: &Fork) -> Result<(), AllocError>
     requires { IsFork (length net.now.nets) fork.now }
-    ensures { OnOk result (text.new.items ≡ text.old.items ++ 32 ∷ spec.event_name net.now.nets fork.now.root ++ 32 ∷ spec.event_name net.now.nets fork.now.fast ++ 32 ∷ spec.event_name net.now.nets fork.now.slow) }
+    ensures { OnOk result (text.new.items ≡ text.old.items ++ 32 ∷ event_name net.now.nets fork.now.root ++ 32 ∷ event_name net.now.nets fork.now.fast ++ 32 ∷ event_name net.now.nets fork.now.slow) }
 {
     push_event(text, net, fork.root)?;
     push_event(text, net, fork.fast)?;

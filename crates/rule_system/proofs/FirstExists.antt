@@ -1,12 +1,14 @@
 -- Where there is a cycle of kept rules, one of them is the first.
-use Rattle.std.proofs.Common.{◌≡◌, ℕ, ◌<◌, ◌≤◌, Bool, List, [], ◌∷◌, length, ◌⊎◌, inl, inr, refl, arith}
+use Rattle.std.proofs.Common.{◌≡◌, ℕ, ◌*◌, ◌<◌, ◌≤◌, Bool, List, [], ◌∷◌, length, ◌⊎◌, inl, inr, refl, sym, arith}
 use Rattle.std.proofs.lemmas.Bool.{cases_lt}
 use Rattle.rule_system.specs.declared.rules.Rule.{Rule}
-use Rattle.rule_system.specs.Rules.{source_of, target_of}
+use Rattle.rule_system.specs.Bounds.{IsSystem, AreSmallSums}
+use Rattle.rule_system.specs.Rules.{source_of, target_of, delay_sum, offset_sum}
 use Rattle.rule_system.specs.Walks.{IsCycle, IsKept, EndsBelow, KeptPath}
 use Rattle.rule_system.specs.FirstCycle.{IsCycleBefore, IsFirstCycle, start_of}
 use Rattle.rule_system.proofs.Firsts.{cycle_either, cycle_through}
 use Rattle.rule_system.proofs.Paths.{path_short}
+use Rattle.rule_system.proofs.Sums.{ends_below, walk_sums, walk_within}
 use Rattle.rule_system.proofs.Erase.{kept_path}
 use Rattle.rule_system.proofs.Search.{IsAmong, IsOrder, BestOrNone, search_best, both_tested}
 use Rattle.rule_system.proofs.WalkTests.{cycle_tested, kept_tested, cycle_numbers}
@@ -60,3 +62,24 @@ first_exists events rs kept ends cycle c k = go (search_best (length rs) events 
         all other p q =
             let s : ShortBefore rs kept events other = shorten events rs kept ends other (p, q) in
             cycle_through rs b.list s.cycle other (b.best s.cycle (s.is_among, s.is_kept)) s.before
+
+not_longer : (rs : List Rule) (c d : List ℕ) → start_of rs c ≡ start_of rs d → IsCycleBefore rs c d → length c ≤ length d
+not_longer rs c d e (inl h) = absurd (omega arith)
+not_longer rs c d e (inr (f, inl h)) = omega arith
+not_longer rs c d e (inr (f, inr h)) = let g : length c ≡ length d = h.0 in omega arith
+
+-- the first cycle has at most as many rules as there are events
+first_short : (events : ℕ) (rs : List Rule) (kept : ℕ → Bool) → EndsBelow events rs → (cycle : List ℕ) → IsFirstCycle rs kept cycle → length cycle ≤ events
+first_short events rs kept ends cycle h =
+    let s : ShortBefore rs kept events cycle = shorten events rs kept ends cycle (h.is_cycle, h.is_kept) in
+    let m : length cycle ≤ length s.cycle = not_longer rs cycle s.cycle (sym s.starts) (h.first s.cycle s.is_kept.0 s.is_kept.1) in
+    let a : length s.cycle ≤ events = s.is_among.0 in
+    omega arith
+
+pub first_sums : (events : ℕ) (rs : List Rule) (kept : ℕ → Bool) → IsSystem events rs → (cycle : List ℕ) → IsFirstCycle rs kept cycle → AreSmallSums rs cycle
+first_sums events rs kept h [] c = absurd c.is_cycle
+first_sums events rs kept h (n ∷ w) c =
+    let short : length (n ∷ w) ≤ events = first_short events rs kept (ends_below events rs h) (n ∷ w) c in
+    let few : events ≤ 32768 = h.0 in
+    let sums : (delay_sum rs (n ∷ w) ≤ 1000000 * length (n ∷ w)) × (offset_sum rs (n ∷ w) ≤ 15 * length (n ∷ w)) = walk_sums events rs h (source_of rs n) (n ∷ w) (source_of rs n) c.is_cycle in
+    record { within = walk_within rs (source_of rs n) (n ∷ w) (source_of rs n) c.is_cycle; short = omega arith; delay = omega arith; offset = omega arith }

@@ -159,6 +159,12 @@ pub fn simple_cycles_have_small_sums()
         (cycle : List ℕ) → IsSimpleCycle rules cycle → AreSmallSums rules cycle }
 {}
 
+/// The first of the cycles of kept rules has at most as many rules as there are events.
+pub fn first_cycles_have_small_sums()
+    ensures { (events : ℕ) (rules : List Rule) (kept : ℕ → Bool) → IsSystem events rules →
+        (cycle : List ℕ) → IsFirstCycle rules kept cycle → AreSmallSums rules cycle }
+{}
+
 /// Of the cycles of kept rules one is the first.
 pub fn first_cycle_is_unique()
     ensures { (rules : List Rule) (kept : ℕ → Bool) (cycle other : List ℕ) →

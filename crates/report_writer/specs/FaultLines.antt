@@ -1,13 +1,13 @@
 -- The line of each fault.
-use Rattle.std.specs.Prelude.{◌++◌, ℕ, List, [], codes, decimal}
+use Rattle.std.specs.Prelude.{◌++◌, ℕ, List, [], ◌∷◌, codes, decimal}
 use Rattle.cyc_text.specs.declared.limits.Limit.{Limit}
 use Rattle.cyc_text.specs.declared.limits.Limit.TheVariants as limit
 use Rattle.cell_arcs.specs.declared.faults.LibraryFault.{LibraryFault}
 use Rattle.cell_arcs.specs.declared.faults.LibraryFault.TheVariants as library
 use Rattle.netlist_model.specs.declared.faults.StatementFault.{StatementFault}
 use Rattle.netlist_model.specs.declared.faults.StatementFault.TheVariants as statement
-use Rattle.engine.specs.declared.faults.Fault.{Fault}
-use Rattle.engine.specs.declared.faults.Fault.TheVariants.{Usage, Library, NetSyntax, NetStatement, TooManyRules, Read, TooLong, Memory}
+use Rattle.report_writer.specs.declared.faults.FaultLine.{FaultLine}
+use Rattle.report_writer.specs.declared.faults.FaultLine.TheVariants.{Usage, Library, NetSyntax, NetStatement, Undriven, NoRoot, IdleTick, TooManyRules, Unreached, NoReturn, Dead, ReadFault, TooLong}
 
 -- what there is too many of
 abbrev pub limit_word : Limit → List ℕ
@@ -104,13 +104,27 @@ statement_payload statement.Memory = []
 abbrev pub statement_text : StatementFault → List ℕ
 statement_text e = statement_code e ++ statement_payload e
 
--- what is told of a fault; of want of memory nothing
-abbrev pub fault_text : Fault → List ℕ
-fault_text Usage = codes "fault: usage\n"
-fault_text (Library e) = codes "fault: library " ++ library_text e ++ codes "\n"
-fault_text (NetSyntax line) = codes "fault: netlist line " ++ decimal line ++ codes " syntax\n"
-fault_text (NetStatement line e) = codes "fault: netlist line " ++ decimal line ++ codes " " ++ statement_text e ++ codes "\n"
-fault_text (TooManyRules count) = codes "fault: netlist H4 " ++ decimal count ++ codes "\n"
-fault_text (Read name) = codes "fault: read " ++ name ++ codes "\n"
-fault_text (TooLong name) = codes "fault: too long " ++ name ++ codes "\n"
-fault_text Memory = []
+-- each name with a space before it
+unfoldable pub spaced : List (List ℕ) → List ℕ
+spaced [] = []
+spaced (name ∷ names) = codes " " ++ name ++ spaced names
+
+-- the text behind `fault: `
+abbrev pub told : FaultLine → List ℕ
+told Usage = codes "usage"
+told (Library e) = codes "library " ++ library_text e
+told (NetSyntax line) = codes "netlist line " ++ decimal line ++ codes " syntax"
+told (NetStatement line e) = codes "netlist line " ++ decimal line ++ codes " " ++ statement_text e
+told (Undriven net) = codes "netlist H1 " ++ net
+told NoRoot = codes "netlist H2"
+told (IdleTick tick) = codes "netlist H3 " ++ decimal tick
+told (TooManyRules count) = codes "netlist H4 " ++ decimal count
+told (Unreached event) = codes "netlist V1 " ++ event
+told (NoReturn event) = codes "netlist V2 " ++ event
+told (Dead events) = codes "netlist V3" ++ spaced events
+told (ReadFault name) = codes "read " ++ name
+told (TooLong name) = codes "too long " ++ name
+
+-- the line of a fault
+abbrev pub fault_text : FaultLine → List ℕ
+fault_text fault = codes "fault: " ++ told fault ++ codes "\n"

@@ -1,9 +1,9 @@
 //! The line of a fault.
 ghost use Rattle.std.specs.Prelude.{◌≡◌, ◌++◌, IfOk, OnOk, codes, decimal};
-ghost use Rattle.engine.specs.FaultLines as spec;
+ghost use Rattle.report_writer.specs.FaultLines as spec;
 
-use crate::faults::Fault;
-use crate::numbers::push_decimal;
+use crate::faults::{FaultLine, Names};
+use crate::pieces::push_decimal;
 use cell_arcs::LibraryFault;
 use cyc_text::{Limit, Text};
 use netlist_model::StatementFault;
@@ -133,70 +133,94 @@ fn push_statement(text: &mut Vec<u8>, fault: StatementFault) -> Result<(), Alloc
     push_payload(text, fault)
 }
 
-/// The line of a fault that names a file.
-fn named(alloc: Global, front: &str, name: &Text) -> Result<Vec<u8>, AllocError>
-    ensures { IfOk result (λ line. line.items ≡ front.now ++ name.now ++ codes "\n") }
+/// Adds a code and a number.
+fn push_number(text: &mut Vec<u8>, code: &str, number: u64) -> Result<(), AllocError>
+    ensures { OnOk result (text.new.items ≡ text.old.items ++ code.now ++ decimal number) }
 {
-    let mut line = Vec::from_slice(alloc, front.as_bytes())?;
-    line.extend_from_slice(name.bytes())?;
-    line.extend_from_slice(b"\n")?;
-    Ok(line)
+    text.extend_from_slice(code.as_bytes())?;
+    push_decimal(text, number)
 }
 
-/// The line of a refused library.
-fn library_line(alloc: Global, fault: LibraryFault) -> Result<Vec<u8>, AllocError>
-    ensures { IfOk result (λ line. line.items ≡ codes "fault: library " ++ spec.library_text fault ++ codes "\n") }
+/// Adds a code and a name.
+fn push_name(text: &mut Vec<u8>, code: &str, name: &Text) -> Result<(), AllocError>
+    ensures { OnOk result (text.new.items ≡ text.old.items ++ code.now ++ name.now) }
 {
-    let mut line = Vec::from_slice(alloc, b"fault: library ")?;
-    push_library(&mut line, fault)?;
-    line.extend_from_slice(b"\n")?;
-    Ok(line)
+    text.extend_from_slice(code.as_bytes())?;
+    text.extend_from_slice(name.bytes())
 }
 
-/// The line of a refused line of the netlist's file.
-fn syntax_line(alloc: Global, number: u64) -> Result<Vec<u8>, AllocError>
-    ensures { IfOk result (λ line. line.items ≡ codes "fault: netlist line " ++ decimal number ++ codes " syntax\n") }
+/// Adds names, a space before each.
+#[tactic(auto, unfolding(crate::specs::FaultLines::spaced))]
+fn push_spaced(text: &mut Vec<u8>, names: &[Text]) -> Result<(), AllocError>
+    ensures { OnOk result (text.new.items ≡ text.old.items ++ spec.spaced names.now) }
 {
-    let mut line = Vec::from_slice(alloc, b"fault: netlist line ")?;
-    push_decimal(&mut line, number)?;
-    line.extend_from_slice(b" syntax\n")?;
-    Ok(line)
+    'names: for name in names {
+        text.extend_from_slice(b" ")?;
+        text.extend_from_slice(name.bytes())?;
+    }
+    Ok(())
 }
 
-/// The line of a refused statement of the netlist's file.
-fn statement_line(alloc: Global, number: u64, fault: StatementFault) -> Result<Vec<u8>, AllocError>
-    ensures { IfOk result (λ line. line.items ≡ codes "fault: netlist line " ++ decimal number ++ codes " " ++ spec.statement_text fault ++ codes "\n") }
+/// Adds a code and names.
+fn push_names(text: &mut Vec<u8>, code: &str, names: &Names) -> Result<(), AllocError>
+    ensures { OnOk result (text.new.items ≡ text.old.items ++ code.now ++ spec.spaced names.now) }
 {
-    let mut line = Vec::from_slice(alloc, b"fault: netlist line ")?;
-    push_decimal(&mut line, number)?;
-    line.extend_from_slice(b" ")?;
-    push_statement(&mut line, fault)?;
-    line.extend_from_slice(b"\n")?;
-    Ok(line)
+    text.extend_from_slice(code.as_bytes())?;
+    push_spaced(text, names.list())
 }
 
-/// The line of too many rules.
-fn count_line(alloc: Global, count: u64) -> Result<Vec<u8>, AllocError>
-    ensures { IfOk result (λ line. line.items ≡ codes "fault: netlist H4 " ++ decimal count ++ codes "\n") }
+/// Adds why a library is refused, behind its word.
+fn push_refused(text: &mut Vec<u8>, fault: LibraryFault) -> Result<(), AllocError>
+    ensures { OnOk result (text.new.items ≡ text.old.items ++ codes "library " ++ spec.library_text fault) }
 {
-    let mut line = Vec::from_slice(alloc, b"fault: netlist H4 ")?;
-    push_decimal(&mut line, count)?;
-    line.extend_from_slice(b"\n")?;
-    Ok(line)
+    text.extend_from_slice(b"library ")?;
+    push_library(text, fault)
 }
 
-/// What is written for a fault.
-pub(crate) fn fault_line(alloc: Global, fault: &Fault) -> Result<Vec<u8>, AllocError>
-    ensures { IfOk result (λ line. line.items ≡ spec.fault_text fault.now) }
+/// Adds that a line has no form of a line.
+fn push_syntax(text: &mut Vec<u8>, line: u64) -> Result<(), AllocError>
+    ensures { OnOk result (text.new.items ≡ text.old.items ++ codes "netlist line " ++ decimal line ++ codes " syntax") }
+{
+    push_number(text, "netlist line ", line)?;
+    text.extend_from_slice(b" syntax")
+}
+
+/// Adds that a line's statement is refused, and why.
+fn push_line(text: &mut Vec<u8>, line: u64, fault: StatementFault) -> Result<(), AllocError>
+    ensures { OnOk result (text.new.items ≡ text.old.items ++ codes "netlist line " ++ decimal line ++ codes " " ++ spec.statement_text fault) }
+{
+    push_number(text, "netlist line ", line)?;
+    text.extend_from_slice(b" ")?;
+    push_statement(text, fault)
+}
+
+/// Adds what is told of a fault.
+fn push_told(text: &mut Vec<u8>, fault: &FaultLine) -> Result<(), AllocError>
+    ensures { OnOk result (text.new.items ≡ text.old.items ++ spec.told fault.now) }
 {
     match fault {
-        Fault::Usage => Vec::from_slice(alloc, b"fault: usage\n"),
-        Fault::Library(fault) => library_line(alloc, *fault),
-        Fault::NetSyntax(number) => syntax_line(alloc, *number),
-        Fault::NetStatement(number, fault) => statement_line(alloc, *number, *fault),
-        Fault::TooManyRules(count) => count_line(alloc, *count),
-        Fault::Read(name) => named(alloc, "fault: read ", name),
-        Fault::TooLong(name) => named(alloc, "fault: too long ", name),
-        Fault::Memory => Ok(Vec::new(alloc)),
+        FaultLine::Usage => text.extend_from_slice(b"usage"),
+        FaultLine::Library(fault) => push_refused(text, *fault),
+        FaultLine::NetSyntax(line) => push_syntax(text, *line),
+        FaultLine::NetStatement(line, fault) => push_line(text, *line, *fault),
+        FaultLine::Undriven(net) => push_name(text, "netlist H1 ", net),
+        FaultLine::NoRoot => text.extend_from_slice(b"netlist H2"),
+        FaultLine::IdleTick(tick) => push_number(text, "netlist H3 ", *tick),
+        FaultLine::TooManyRules(count) => push_number(text, "netlist H4 ", *count),
+        FaultLine::Unreached(event) => push_name(text, "netlist V1 ", event),
+        FaultLine::NoReturn(event) => push_name(text, "netlist V2 ", event),
+        FaultLine::Dead(events) => push_names(text, "netlist V3", events),
+        FaultLine::ReadFault(name) => push_name(text, "read ", name),
+        FaultLine::TooLong(name) => push_name(text, "too long ", name),
     }
+}
+
+/// The line of a fault: `fault: `, what is told of it, and a line feed. `AllocError` only for want of memory.
+pub fn fault_text(alloc: Global, fault: &FaultLine) -> Result<Text, AllocError>
+    ensures { IfOk result (λ text. text ≡ spec.fault_text fault.now) }
+{
+    let mut text = Vec::from_slice(alloc, b"fault: ")?;
+    push_told(&mut text, fault)?;
+    text.extend_from_slice(b"\n")?;
+    Text::of(alloc, &text)
 }

@@ -1,0 +1,158 @@
+use crate::Outcome;
+use crate::tests::{
+    LIBRARY, file, is_written, netlist_bytes, push_written, run, wide_library, wide_ring,
+};
+use cyc_port::{MemShelf, MemSink, SinkStop};
+use std::alloc::{AllocError, Global};
+use std::test::Fail;
+use std::thread::Threads;
+
+/// A C-element, alone and with a reset that has no arc, behind the cells of the tables.
+const C_ELEMENTS: &str =
+    "[cell.C2]\ninputs = [\"A\", \"B\"]\noutput = \"Z\"\narcs = [{ from = \"A\", sense = \"pos\", rise = 20, fall = 18 }, { from = \"B\", sense = \"pos\", rise = 20, fall = 18 }]\narea = 12\nfunction = \"C\"\n[cell.C2R]\ninputs = [\"A\", \"B\", \"R\"]\noutput = \"Z\"\narcs = [{ from = \"A\", sense = \"pos\", rise = 20, fall = 18 }, { from = \"B\", sense = \"pos\", rise = 20, fall = 18 }]\n";
+
+/// A netlist on each line, in the writing of the tables, and what is written for it: the report, or the line of a fault.
+const ANALYSES: &str = "\
+% => period 66/1|cycle 6 66 1|step 1 A+ B- 10 0|step 2 B- C+ 12 0|step 5 C+ A- 10 0|step 0 A- B+ 12 0|step 3 B+ C- 10 0|step 4 C- A+ 12 1|arrival A+ 0/1|arrival A- 32/1|arrival B+ 44/1|arrival B- 10/1|arrival C+ 22/1|arrival C- 54/1|end|
+%tick C+ A- 1| => period 33/1|cycle 6 66 2|step 1 A+ B- 10 0|step 2 B- C+ 12 0|step 5 C+ A- 10 1|step 0 A- B+ 12 0|step 3 B+ C- 10 0|step 4 C- A+ 12 1|arrival A+ 0/1|arrival A- -1/1|arrival B+ 11/1|arrival B- 10/1|arrival C+ 22/1|arrival C- 21/1|end|
+$tick C- A+ 2|root A+|tick C+ A- 2| => period 33/2|cycle 6 66 4|step 1 A+ B- 10 0|step 2 B- C+ 12 0|step 5 C+ A- 10 2|step 0 A- B+ 12 0|step 3 B+ C- 10 0|step 4 C- A+ 12 2|arrival A+ 0/2|arrival A- -2/2|arrival B+ 22/2|arrival B- 20/2|arrival C+ 44/2|arrival C- 42/2|end|
+%delay i1 A 0 0|delay i2 A 0 0|delay i3 A 0 0| => period 0/1|cycle 6 0 1|step 1 A+ B- 0 0|step 2 B- C+ 0 0|step 5 C+ A- 0 0|step 0 A- B+ 0 0|step 3 B+ C- 0 0|step 4 C- A+ 0 1|arrival A+ 0/1|arrival A- 0/1|arrival B+ 0/1|arrival B- 0/1|arrival C+ 0/1|arrival C- 0/1|end|
+$tick C- A+ 15|root A+| => period 22/5|cycle 6 66 15|step 1 A+ B- 10 0|step 2 B- C+ 12 0|step 5 C+ A- 10 0|step 0 A- B+ 12 0|step 3 B+ C- 10 0|step 4 C- A+ 12 15|arrival A+ 0/5|arrival A- 160/5|arrival B+ 220/5|arrival B- 50/5|arrival C+ 110/5|arrival C- 270/5|end|
+net z0|net n0|net z1|net n1|net z2|net n2|inst c0 C2 A=z2 B=n1 Z=z0|inst v0 INV A=z0 Z=n0|inst c1 C2 A=z0 B=n2 Z=z1|inst v1 INV A=z1 Z=n1|inst c2 C2 A=z1 B=n0 Z=z2|inst v2 INV A=z2 Z=n2|tick z0+ z1+ 1|tick z2- z0- 1|tick n2+ z1+ 1|root z0+| => period 180/1|cycle 12 180 1|step 5 z0+ n0- 10 0|step 15 n0- z2- 18 0|step 16 z2- n2+ 12 0|step 8 n2+ z1+ 20 1|step 11 z1+ n1- 10 0|step 3 n1- z0- 18 0|step 4 z0- n0+ 12 0|step 14 n0+ z2+ 20 0|step 17 z2+ n2- 10 0|step 9 n2- z1- 18 0|step 10 z1- n1+ 12 0|step 2 n1+ z0+ 20 0|arrival z0+ 0/1|arrival z0- -92/1|arrival n0+ -80/1|arrival n0- 10/1|arrival z1+ -120/1|arrival z1- -32/1|arrival n1+ -20/1|arrival n1- -110/1|arrival z2+ -60/1|arrival z2- 28/1|arrival n2+ 40/1|arrival n2- -50/1|end|
+net z0 # zero~|net n0~|net z1~|net n1~|net z2~|net n2~|const reset~|inst c0 C2R A=z2 B=n1 R=reset Z=z0~|inst v0 INV A=z0 Z=n0~|inst c1 C2R A=z0 B=n2 R=reset Z=z1 # one~|inst v1 INV A=z1 Z=n1~|inst c2 C2R A=z1 B=n0 R=reset Z=z2~|inst v2 INV A=z2 Z=n2~|# ticks~|tick z0+ z1+ 1~|tick z2- z0- 1~|tick n2+ z1+ 1~|root z0+~|fork bundle z0+ n0- z2- 5 0~| => period 180/1|cycle 12 180 1|step 5 z0+ n0- 10 0|step 15 n0- z2- 18 0|step 16 z2- n2+ 12 0|step 8 n2+ z1+ 20 1|step 11 z1+ n1- 10 0|step 3 n1- z0- 18 0|step 4 z0- n0+ 12 0|step 14 n0+ z2+ 20 0|step 17 z2+ n2- 10 0|step 9 n2- z1- 18 0|step 10 z1- n1+ 12 0|step 2 n1+ z0+ 20 0|arrival z0+ 0/1|arrival z0- -92/1|arrival n0+ -80/1|arrival n0- 10/1|arrival z1+ -120/1|arrival z1- -32/1|arrival n1+ -20/1|arrival n1- -110/1|arrival z2+ -60/1|arrival z2- 28/1|arrival n2+ 40/1|arrival n2- -50/1|fork bundle 13/1 met|end|
+net A|net B|net C|net D|inst i1 INV A=A Z=B|inst i2 INV A=B Z=C|inst i4 INV A=B Z=D|inst i3 NOR2 A=C B=D Z=A|tick C- A+ 1|tick D- A+ 1|root A+| => period 66/1|cycle 6 66 1|step 1 A+ B- 10 0|step 2 B- C+ 12 0|step 7 C+ A- 10 0|step 0 A- B+ 12 0|step 3 B+ C- 10 0|step 6 C- A+ 12 1|arrival A+ 0/1|arrival A- 32/1|arrival B+ 44/1|arrival B- 10/1|arrival C+ 22/1|arrival C- 54/1|arrival D+ 22/1|arrival D- 54/1|end|
+net A|inst x X1 A=A Z=A|tick A+ A+ 1|tick A- A- 1|tick A- A+ 1|root A+| => period 12/1|cycle 2 12 1|step 2 A+ A- 5 0|step 1 A- A+ 7 1|arrival A+ 0/1|arrival A- 5/1|end|
+net A|inst x X1 A=A Z=A|tick A+ A+ 1|tick A- A- 1|tick A- A+ 1|root A-|fork a A- A+ A- 0 1|fork b A+ A- A+ 0 15|fork c A- A- A- 12 1| => period 12/1|cycle 2 12 1|step 2 A+ A- 5 0|step 1 A- A+ 7 1|arrival A+ -5/1|arrival A- 0/1|fork a 17/1 met|fork b 175/1 met|fork c 0/1 met|end|
+net A|net B|net C|const rst|inst i1 INV A=A Z=B|inst i2 INV A=B Z=C|inst i3 NOR2 A=C B=rst Z=A|tick C- A+ 1|root A+| => period 66/1|cycle 6 66 1|step 1 A+ B- 10 0|step 2 B- C+ 12 0|step 5 C+ A- 10 0|step 0 A- B+ 12 0|step 3 B+ C- 10 0|step 4 C- A+ 12 1|arrival A+ 0/1|arrival A- 32/1|arrival B+ 44/1|arrival B- 10/1|arrival C+ 22/1|arrival C- 54/1|end|
+%fork f1 A+ C+ A- 0 0|fork f2 A+ C+ A- 10 0|fork f3 A+ C+ A- 11 0| => period 66/1|cycle 6 66 1|step 1 A+ B- 10 0|step 2 B- C+ 12 0|step 5 C+ A- 10 0|step 0 A- B+ 12 0|step 3 B+ C- 10 0|step 4 C- A+ 12 1|arrival A+ 0/1|arrival A- 32/1|arrival B+ 44/1|arrival B- 10/1|arrival C+ 22/1|arrival C- 54/1|fork f1 10/1 met|fork f2 0/1 met|fork f3 -1/1 missed|end|
+$root A+| => fault: netlist V3 A+ B- C+ A- B+ C-|
+net A|net B|inst b1 BUF A=A Z=B|inst b2 BUF A=B Z=A|tick B+ A+ 1|tick B- A- 1|root A+| => fault: netlist V1 A-|
+net A|net B|inst b1 BUF A=A Z=B|inst b2 BUF A=B Z=A|root A-| => fault: netlist V1 A+|
+net A|net B|net C|net D|inst i1 INV A=A Z=B|inst i2 INV A=B Z=C|inst i3 INV A=C Z=A|inst i4 INV A=B Z=D|tick C- A+ 1|root A+| => fault: netlist V2 D+|
+net A|net B|net C|net D|inst i1 INV A=A Z=B|inst i2 INV A=B Z=C|inst i3 INV A=C Z=A|inst i4 INV A=B Z=D|root A+| => fault: netlist V2 D+|
+net A|net B|inst i1 INV A=A Z=B| => fault: netlist H1 A|
+net B|net A|inst i1 INV A=A Z=B|tick A+ A+ 1| => fault: netlist H1 A|
+ => fault: netlist H2|
+const c| => fault: netlist H2|
+$tick A+ C+ 1| => fault: netlist H2|
+%tick A+ C+ 1| => fault: netlist H3 2|
+%tick A+ B- 1|tick B+ A+ 1|tick A+ C+ 1| => fault: netlist H3 3|
+$root A+|tick A+ C+ 1| => fault: netlist H3 1|
+net A|net B|net C|inst i1 INV A=A Z=B|inst i2 INV A=B Z=C|inst i3 INV A=C Z= => fault: netlist line 6 S3|
+%foo| => fault: netlist line 9 syntax|
+net A => fault: netlist H1 A|
+net A|net B|net C => fault: netlist H1 A|
+net A|net B|net C|inst i1 INV A=A Z=B|inst i2 INV A=B Z=C => fault: netlist H1 A|
+$tick C- A+ 1 => fault: netlist H2|
+";
+
+/// A shelf with a library and a netlist under the names of the tables.
+fn shelf(
+    alloc: Global,
+    library: &[u8],
+    netlist: &[u8],
+    fail: Vec<u64>,
+) -> Result<MemShelf, AllocError> {
+    let mut files = Vec::new(alloc);
+    files.push(file(alloc, "lib.toml", library)?)?;
+    files.push(file(alloc, "ring.net", netlist)?)?;
+    Ok(MemShelf::new(files, fail))
+}
+
+/// The cells of the tables and the C-elements.
+fn cells(alloc: Global) -> Result<String, AllocError> {
+    format!(in alloc; "{LIBRARY}{C_ELEMENTS}")
+}
+
+/// What `analyze lib.toml ring.net` answers over these bytes.
+fn analyze<R: Threads + Sync>(
+    rt: &R,
+    alloc: Global,
+    library: &[u8],
+    netlist: &[u8],
+) -> Result<(Outcome, MemSink), AllocError> {
+    let mut shelf = shelf(alloc, library, netlist, Vec::new(alloc))?;
+    run(
+        rt,
+        alloc,
+        "analyze lib.toml ring.net",
+        &mut shelf,
+        Vec::new(alloc),
+    )
+}
+
+#[test]
+fn netlists_and_their_reports(rt: HostRuntime) -> Result<(), Fail> {
+    let alloc = rt.alloc();
+    let library = cells(alloc)?;
+    for row in ANALYSES.lines() {
+        let (netlist, text) = row.split_once(" => ").ok_or("no arrow")?;
+        let netlist = netlist_bytes(alloc, netlist)?;
+        let mut wanted = Vec::new(alloc);
+        push_written(&mut wanted, text)?;
+        let (outcome, sink) = analyze(&rt, alloc, library.as_bytes(), &netlist)?;
+        assert!(rt; is_written(&outcome, &sink, &wanted), "{row}");
+    }
+    Ok(())
+}
+
+/// The report of the ring.
+fn ring_report(alloc: Global) -> Result<Vec<u8>, AllocError> {
+    let row = ANALYSES.lines().next().unwrap_or("");
+    let text = row.strip_prefix("% => ").unwrap_or("");
+    let mut wanted = Vec::new(alloc);
+    push_written(&mut wanted, text)?;
+    Ok(wanted)
+}
+
+/// What the ring's words answer where these calls fail.
+fn failing<R: Threads + Sync>(
+    rt: &R,
+    alloc: Global,
+    fail: Vec<u64>,
+    stops: Vec<SinkStop>,
+) -> Result<(Outcome, MemSink), AllocError> {
+    let netlist = netlist_bytes(alloc, "%")?;
+    let mut shelf = shelf(alloc, LIBRARY.as_bytes(), &netlist, fail)?;
+    run(rt, alloc, "analyze lib.toml ring.net", &mut shelf, stops)
+}
+
+#[test]
+fn failing_calls_of_analyze(rt: HostRuntime) -> Result<(), Fail> {
+    let alloc = rt.alloc();
+    let (outcome, sink) = failing(&rt, alloc, vec![in alloc; 0]?, Vec::new(alloc))?;
+    assert!(rt; is_written(&outcome, &sink, b"fault: read lib.toml\n"));
+    let (outcome, sink) = failing(&rt, alloc, vec![in alloc; 1]?, Vec::new(alloc))?;
+    assert!(rt; is_written(&outcome, &sink, b"fault: read ring.net\n"));
+    let report = ring_report(alloc)?;
+    let (outcome, sink) = failing(&rt, alloc, vec![in alloc; 2]?, Vec::new(alloc))?;
+    assert!(rt; is_written(&outcome, &sink, &report));
+    for taken in 0..=report.len() {
+        let stops = vec![in alloc; SinkStop { call: 0, taken }]?;
+        let (outcome, sink) = failing(&rt, alloc, Vec::new(alloc), stops)?;
+        assert_eq!(rt; outcome.status, 7);
+        assert_eq!(rt; sink.bytes().len(), taken);
+        assert!(rt; report.starts_with(sink.bytes()));
+    }
+    let stops = vec![in alloc; SinkStop { call: 0, taken: 3 }]?;
+    let (outcome, sink) = failing(&rt, alloc, vec![in alloc; 1]?, stops)?;
+    assert_eq!(rt; outcome.status, 7);
+    assert_eq!(rt; sink.bytes(), b"fau".as_slice());
+    Ok(())
+}
+
+#[test]
+fn too_many_rules_to_analyze(rt: HostRuntime) -> Result<(), Fail> {
+    let alloc = rt.alloc();
+    let library = wide_library(alloc)?;
+    let mut netlist = wide_ring(alloc)?;
+    let (outcome, sink) = analyze(&rt, alloc, library.as_bytes(), netlist.as_bytes())?;
+    assert!(rt; is_written(&outcome, &sink, b"fault: netlist H2\n"));
+    netlist.push_str("net w\ninst wi INV A=m0 Z=w\nroot m0+\n")?;
+    let (outcome, sink) = analyze(&rt, alloc, library.as_bytes(), netlist.as_bytes())?;
+    assert!(rt; is_written(&outcome, &sink, b"fault: netlist H4 131074\n"));
+    netlist.push_str("tick w+ m0+ 1\n")?;
+    let (outcome, sink) = analyze(&rt, alloc, library.as_bytes(), netlist.as_bytes())?;
+    assert!(rt; is_written(&outcome, &sink, b"fault: netlist H3 1\n"));
+    Ok(())
+}

@@ -1,0 +1,5 @@
+pub mod Pieces
+pub mod RulesText
+pub mod Report
+pub mod Rightness
+pub mod FaultLines
