@@ -1,11 +1,12 @@
 #!/usr/bin/env bash
 # Times `expand` and `analyze` on netlists that it makes, of up to 16,384 nets and 131,072 rules, and prints for each its kind, nets, rules
-# and bytes; the milliseconds of each of the two commands and of a word count of the file by the system's `wc` (each the fastest of
-# three runs); for each command the ratio to the word count, the exponent of growth in bytes from the size before, and the greatest
-# resident memory in megabytes. This script's own Python is the least memory that is seen of any run.
+# and bytes; the milliseconds of each of the two commands and of a word count of the file by the system's `wc` (the fastest of three
+# runs, of which none begins after three seconds); for each command the ratio to the word count, the exponent of growth in bytes from
+# the size before, and the greatest resident memory in megabytes. This script's own Python is the least memory that is seen of any run.
 # Rings, chains of buffers with side branches and a single tick, Muller rings and meshes, in order and shuffled; nets with both
 # neighbours as inputs; random systems, also with a tick on every rule, with no delays, and with all delays and ticks alike, where every
-# cycle attains the period; cells of 16 inputs; a row of nets with a hub that leads to each; forks with 64 different roots.
+# cycle attains the period; cells of 16 inputs; a row of nets with a hub that leads to each, also with cycles of greater and greater
+# ratios; forks with 64 different roots.
 # Each netlist is whole, connected and live: where a command does not accept one, the script says so, and ends with 1.
 # Use: bench/analyze/run.sh [PROGRAM], where PROGRAM is the built program (crates/cyclone/out/cyclone if left out).
 set -eu
@@ -215,21 +216,33 @@ def wide_drawn(nets):
     return Netlist(gates, backward(rising_first, 3))
 
 
-def hub(nets):
-    """A row of buffers numbered from its end to its start, and a hub that leads to each of them. Every rule has a tick. The hub's own
-    cycle attains the period, and the way along the row is heavier than the hub's rules by little, and less at each net."""
+def hub(nets, backs=0):
+    """A row of buffers numbered from its end to its start, and a hub that leads to each of them. Every rule has a tick. At the hub's own
+    ratio the way along the row is heavier than the hub's rules by little, and by less at each net, so what is learnt of the row is
+    learnt net by net. Rules back from later and later nets close cycles of greater and greater ratios."""
     length = nets - 1
+    start = 1010 + length
+    back_arcs, back_nets = [], []
+    for at in range(backs):
+        net = length // 2 - length // 2 * at // backs - 1
+        rules_and_ticks = length - net + 16
+        back_arcs.append((rules_and_ticks * (at + 1) // (10 * backs) + 16000 + length - net - start,) * 2)
+        back_nets.append(net)
     cells = {
-        "HUB": [("pos", 1000, 1000), ("non", 0, 0)],
-        "FIRST": [("pos", 1010 + length, 1010 + length)],
+        "HUB": [("pos", 1000, 1000), ("non", 0, 0)] + [("pos",) + delays for delays in back_arcs],
+        "START": [("pos", start, start)],
         "NEXT": [("pos", 999, 999), ("pos", 15000, 15000)],
     }
-    gates = [("HUB", [0, 1])] + [("NEXT", [net + 1, 0]) for net in range(1, length)] + [("FIRST", [0])]
+    gates = [("HUB", [0, 1] + back_nets)] + [("NEXT", [net + 1, 0]) for net in range(1, length)] + [("START", [0])]
 
     def tick(source, target):
-        is_long = source // 2 == 0 and 0 < target // 2 < length or source // 2 == 1 and target // 2 == 0
+        is_long = source // 2 == 0 and 0 < target // 2 < length or source // 2 > 0 and target // 2 == 0
         return 15 if is_long else 1
     return Netlist(gates, tick, cells)
+
+
+def hub_raised(nets):
+    return hub(nets, 4)
 
 
 def shuffled(make):
@@ -255,6 +268,7 @@ KINDS = [
     ("random", drawn), ("random onward", drawn_forward), ("random onward shuffled", shuffled(drawn_forward)),
     ("random, ticks", ticked), ("random, no delays", no_delays), ("random, alike", alike),
     ("16 inputs", wide), ("16 inputs random", wide_drawn), ("hub", hub), ("hub shuffled", shuffled(hub)),
+    ("hub, raised", hub_raised),
     ("64 roots, random", with_roots(drawn)), ("64 roots, Muller", with_roots(muller)), ("64 roots, chain", with_roots(chain)),
 ]
 
@@ -268,22 +282,27 @@ def run(words, out):
     return (time.monotonic() - begun) * 1000, os.waitstatus_to_exitcode(code), usage.ru_maxrss / 1024
 
 
-def fastest(words):
-    runs = [run(words, "/dev/null") for _ in range(3)]
-    return min(took for took, _, _ in runs), max(memory for _, _, memory in runs)
+def fastest(words, out="/dev/null"):
+    """The fastest of three runs, of which none begins after three seconds, and the most memory. None where one has not status 0."""
+    took, memory = [], []
+    while len(took) < 3 and sum(took) < 3000:
+        each, status, most = run(words, out)
+        if status != 0:
+            with open(out, "rb") as file:
+                print("NOT ACCEPTED: status %d, %s" % (status, file.readline(200).decode().rstrip()), flush=True)
+            return None
+        took.append(each)
+        memory.append(most)
+    return min(took), max(memory)
 
 
-def is_accepted(command, name, nets):
-    """Whether a run has written a whole text; says so where it has not."""
-    _, status, _ = run([PROGRAM, command, "lib.toml", "made.net"], "text")
+def is_whole(command):
+    """Whether the text of the last run is whole."""
     with open("text", "rb") as file:
-        first = file.readline(200).decode().rstrip("\n")
+        first = file.readline()
         file.seek(max(0, os.path.getsize("text") - 5))
         last = file.read()
-    if status == 0 and (command == "expand" or last == b"\nend\n"):
-        return True
-    print("NOT ACCEPTED: %s of %s, %d nets: status %d, %s" % (command, name, nets, status, first), flush=True)
-    return False
+    return first.startswith(b"events ") if command == "expand" else last == b"\nend\n"
 
 
 def made(make, nets):
@@ -318,11 +337,13 @@ for name, make in KINDS:
         count, _ = fastest(["wc", "-w", "made.net"])
         row = "%-23s %6d %7d %8d %7.1f" % (name, gates, rules, size, count)
         for command in ("expand", "analyze"):
-            if not is_accepted(command, name, gates):
+            found = fastest([PROGRAM, command, "lib.toml", "made.net"], "text")
+            if found is None or not is_whole(command):
                 refused += 1
+                print("NOT ACCEPTED: %s of %s, %d nets" % (command, name, gates), flush=True)
                 row += " |%8s %6s %5s %6s" % ("-", "-", "-", "-")
                 continue
-            took, memory = fastest([PROGRAM, command, "lib.toml", "made.net"])
+            took, memory = found
             row += " |%8.1f %6.1f %5s %6.1f" % (took, took / count, growth((size, took), before[command]), memory)
             before[command] = (size, took)
         print(row, flush=True)
