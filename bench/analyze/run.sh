@@ -7,7 +7,7 @@
 # neighbours as inputs; random systems, also with a tick on every rule, with no delays, and with all delays and ticks alike, where every
 # cycle attains the period; cells of 16 inputs; a row of nets with a hub that leads to each, also with cycles of greater and greater
 # ratios; forks with 64 different roots.
-# Each netlist is whole, connected and live: where a command does not accept one, the script says so, and ends with 1.
+# Each netlist is whole, connected and live: where a command does not accept one, the script says so, and ends with 1. It takes some minutes.
 # Use: bench/analyze/run.sh [PROGRAM], where PROGRAM is the built program (crates/cyclone/out/cyclone if left out).
 set -eu
 top=$(cd "$(dirname "$0")/../.." && pwd)
