@@ -1,5 +1,6 @@
 //! The numbers that a choice of one rule into each event gives. Nothing is promised of them.
 
+use crate::pending::Pending;
 use cyc_num::Ratio;
 use rule_system::{Rule, System};
 use std::alloc::{AllocError, Global};
@@ -21,37 +22,60 @@ pub fn chosen_into(rules: &[Rule], parents: &[Option<u32>], event: u32) -> Optio
 }
 
 /// Gives each event what the rule chosen into it leads to. An event without one has 0, and one that would have less than 0
-/// loses its rule.
+/// loses its rule. An event whose number rose is pending then, and so are the events with a rule to one whose number fell.
 pub fn evaluate(
     alloc: Global,
     system: &System,
     ratio: Ratio,
     numbers: &mut [i64],
     parents: &mut [Option<u32>],
+    pending: &mut Pending,
 ) -> Result<(), AllocError> {
     let order = tree_order(alloc, system, parents)?;
     'events: for event in &order {
-        evaluate_one(system.rules(), *event, ratio, numbers, parents);
+        evaluate_one(system, *event, ratio, numbers, parents, pending);
     }
     Ok(())
 }
 
 /// Gives one event its number.
 fn evaluate_one(
-    rules: &[Rule],
+    system: &System,
     event: u32,
     ratio: Ratio,
     numbers: &mut [i64],
     parents: &mut [Option<u32>],
+    pending: &mut Pending,
 ) {
-    let number = number_of(rules, event, ratio, numbers, parents);
-    if let Some(slot) = numbers.get_mut(event as usize) {
-        *slot = number.max(0);
-    }
+    let number = number_of(system.rules(), event, ratio, numbers, parents);
     if number < 0
         && let Some(parent) = parents.get_mut(event as usize)
     {
         *parent = None;
+    }
+    let number = number.max(0);
+    let Some(slot) = numbers.get_mut(event as usize) else {
+        return;
+    };
+    let before = *slot;
+    *slot = number;
+    if number > before {
+        pending.add(event);
+    }
+    if number < before {
+        add_sources(system, event, pending);
+    }
+}
+
+/// Makes the events pending that have a rule to an event.
+fn add_sources(system: &System, event: u32, pending: &mut Pending) {
+    if event >= system.events() {
+        return;
+    }
+    'rules: for number in system.into_event(event) {
+        if let Some(rule) = system.rules().get(*number as usize) {
+            pending.add(rule.source);
+        }
     }
 }
 

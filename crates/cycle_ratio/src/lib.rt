@@ -5,6 +5,7 @@ mod checking;
 mod choices;
 mod closings;
 mod gains;
+mod pending;
 mod proposals;
 mod raising;
 mod search;

@@ -3,13 +3,15 @@ ghost use Rattle.rule_system.specs.Bounds.{IsRule};
 
 use crate::choices::{evaluate, weight_of};
 use crate::closings::{Closing, cut_cycles};
-use crate::steps::{Step, steps_of};
+use crate::pending::Pending;
+use crate::steps::{Step, order_of, steps_of};
 use cyc_num::Ratio;
-use rule_system::System;
+use rule_system::{Rule, System};
 use std::alloc::{AllocError, Global};
+use std::cmp::Ordering;
 
-/// How many sweeps the search makes at most.
-const SWEEPS: u32 = 4_096;
+/// How many rounds the search makes at most.
+const ROUNDS: u32 = 4_096;
 
 /// A cycle and numbers that may show that it has the greatest ratio. Nothing is promised of them.
 #[derive(Drop)]
@@ -22,41 +24,48 @@ pub struct Proposal {
 ///
 /// Improves a choice of at most one rule into each event (Howard 1960; for cycles Cochet-Terrasson and others 1998, Dasdan
 /// 2004). The best cycle that the choice ever closed gives the ratio. Each cycle is cut where its numbers are least, so the
-/// chosen rules are trees; an event without a rule has 0, and each other what its rule leads to, but never less than 0. A
-/// sweep over all rules, in an order in which rules of offset 0 lead onward, chooses better ones. The choice is kept from
-/// ratio to ratio. Some ten sweeps as a rule, each in time linear in the rules, and never more than a fixed number.
+/// chosen rules are trees; an event without a rule has 0, and each other what its rule leads to, but never less than 0.
+/// From each event whose number changed the rules are tried again, in sweeps over an order in which rules of offset 0 lead
+/// onward, and a rule that raises its target is chosen. A round tries about as many rules as there are; then the choice is
+/// evaluated and its cycles are cut. The choice is kept from ratio to ratio. Some ten rounds as a rule, each in time linear
+/// in the rules, and never more than a fixed number.
 pub fn propose(alloc: Global, system: &System) -> Result<Proposal, AllocError> {
     let events = system.events() as usize;
-    let steps = steps_of(alloc, system)?;
+    let order = order_of(alloc, system)?;
+    let steps = steps_of(alloc, system, &order)?;
     let mut parents = vec![in alloc; None; events]?;
     let mut numbers = vec![in alloc; 0; events]?;
     choose_first(&steps, &mut numbers, &mut parents);
-    let cycle = improve(alloc, system, &steps, &mut numbers, &mut parents)?;
+    let mut pending = Pending::none_of(alloc, order, system.events())?;
+    let cycle = improve(alloc, system, &mut numbers, &mut parents, &mut pending)?;
     Ok(Proposal { cycle, numbers })
 }
 
-/// Improves the choice until a sweep changes nothing, and answers the best cycle that it ever closed.
+/// Improves the choice until no rule raises a number, and answers the best cycle that it ever closed.
 fn improve(
     alloc: Global,
     system: &System,
-    steps: &[Step],
     numbers: &mut [i64],
     parents: &mut [Option<u32>],
-) -> Result<Vec<u32>, AllocError>
-    requires steps { All (λ s. IsRule (length numbers.old) s.rule) steps.now }
-    requires count { length parents.old ≡ length numbers.old }
-{
+    pending: &mut Pending,
+) -> Result<Vec<u32>, AllocError> {
     let mut best = Closing {
         cycle: Vec::new(alloc),
         ratio: Ratio::of(0, 1),
     };
     cut_cycles(alloc, system, parents, &mut best)?;
-    'sweeps: for _ in 0..SWEEPS {
-        evaluate(alloc, system, best.ratio, numbers, parents)?;
-        if !sweep(steps, best.ratio, numbers, parents) {
+    pending.add_all();
+    'rounds: for _ in 0..ROUNDS {
+        let ratio = best.ratio;
+        evaluate(alloc, system, ratio, numbers, parents, pending)?;
+        if pending.is_empty() {
             break;
         }
+        relax(system, ratio, numbers, parents, pending);
         cut_cycles(alloc, system, parents, &mut best)?;
+        if ratio.order(&best.ratio) != Ordering::Equal {
+            pending.add_all();
+        }
     }
     Ok(best.cycle)
 }
@@ -76,21 +85,108 @@ fn choose_first(steps: &[Step], numbers: &mut [i64], parents: &mut [Option<u32>]
     }
 }
 
-/// Chooses each rule that raises the number of its target, and answers whether one does.
-fn sweep(steps: &[Step], ratio: Ratio, numbers: &mut [i64], parents: &mut [Option<u32>]) -> bool
-    requires steps { All (λ s. IsRule (length numbers.old) s.rule) steps.now }
-    requires count { length parents.old ≡ length numbers.old }
-{
-    let mut raised = false;
-    'steps: for step in steps {
-        let weight = weight_of(step.rule, ratio);
-        let offered = numbers[step.rule.source as usize].saturating_add(weight);
-        let target = step.rule.target as usize;
-        if offered > numbers[target] {
-            numbers[target] = offered;
-            parents[target] = Some(step.number);
-            raised = true;
+/// Goes on from pending events, sweep by sweep, until none is left or about as many rules are tried as there are.
+fn relax(
+    system: &System,
+    ratio: Ratio,
+    numbers: &mut [i64],
+    parents: &mut [Option<u32>],
+    pending: &mut Pending,
+) {
+    let most = system.rules().len();
+    let mut tried: usize = 0;
+    'sweeps: for _ in 0..=most {
+        if tried > most || pending.is_empty() {
+            break;
+        }
+        tried = tried.saturating_add(sweep(system, ratio, numbers, parents, pending));
+    }
+}
+
+/// Goes on from each pending event, place by place, and answers how much that cost.
+fn sweep(
+    system: &System,
+    ratio: Ratio,
+    numbers: &mut [i64],
+    parents: &mut [Option<u32>],
+    pending: &mut Pending,
+) -> usize {
+    let words = pending.words();
+    let mut tried = words;
+    'words: for word in 0..words {
+        if !pending.is_clear(word) {
+            tried = tried.saturating_add(sweep_word(
+                system, word, ratio, numbers, parents, pending,
+            ));
         }
     }
-    raised
+    tried
+}
+
+/// Goes on from each pending event of a word, and answers how many rules were tried.
+fn sweep_word(
+    system: &System,
+    word: usize,
+    ratio: Ratio,
+    numbers: &mut [i64],
+    parents: &mut [Option<u32>],
+    pending: &mut Pending,
+) -> usize {
+    let mut tried: usize = 0;
+    'bits: for bit in 0..64u32 {
+        if let Some(event) = pending.take(word, bit) {
+            tried = tried.saturating_add(go_on(system, event, ratio, numbers, parents, pending));
+        }
+    }
+    tried
+}
+
+/// Chooses each rule from an event that raises the number of its target, from which to go on then, and answers how many
+/// rules were tried.
+fn go_on(
+    system: &System,
+    event: u32,
+    ratio: Ratio,
+    numbers: &mut [i64],
+    parents: &mut [Option<u32>],
+    pending: &mut Pending,
+) -> usize {
+    if event >= system.events() {
+        return 0;
+    }
+    let rules = system.rules();
+    let from_event = system.out_of_event(event);
+    'rules: for number in from_event {
+        if let Some(rule) = rules.get(*number as usize)
+            && is_raised(*rule, *number, ratio, numbers, parents)
+        {
+            pending.add(rule.target);
+        }
+    }
+    from_event.len()
+}
+
+/// Chooses the rule if it raises the number of its target, and answers whether it does.
+fn is_raised(
+    rule: Rule,
+    number: u32,
+    ratio: Ratio,
+    numbers: &mut [i64],
+    parents: &mut [Option<u32>],
+) -> bool {
+    let Some(from) = numbers.get(rule.source as usize).copied() else {
+        return false;
+    };
+    let Some(there) = numbers.get_mut(rule.target as usize) else {
+        return false;
+    };
+    let offered = from.saturating_add(weight_of(rule, ratio));
+    if offered <= *there {
+        return false;
+    }
+    *there = offered;
+    if let Some(parent) = parents.get_mut(rule.target as usize) {
+        *parent = Some(number);
+    }
+    true
 }

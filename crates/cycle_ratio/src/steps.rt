@@ -11,14 +11,12 @@ pub struct Step {
     pub rule: Rule,
 }
 
-/// The rules by their targets, in an order of the events in which rules of offset 0 lead onward.
-/// Rules into events behind a cycle of offset 0 are left out.
-pub fn steps_of(alloc: Global, system: &System) -> Result<Vec<Step>, AllocError>
+/// The rules by their targets, in an order of the events.
+pub fn steps_of(alloc: Global, system: &System, order: &[u32]) -> Result<Vec<Step>, AllocError>
     ensures { IfOk result (λ steps. All (λ s. IsRule system.now.events s.rule) steps.items) }
 {
-    let order = order_of(alloc, system)?;
     let mut steps = Vec::with_capacity(alloc, system.rules().len())?;
-    'events: for event in &order {
+    'events: for event in order {
         append_into(system, *event, &mut steps)?;
     }
     Ok(steps)
@@ -45,7 +43,7 @@ fn append_into(system: &System, event: u32, steps: &mut Vec<Step>) -> Result<(),
 }
 
 /// The events in an order in which rules of offset 0 lead onward (Kahn 1962), without those behind a cycle of such rules.
-fn order_of(alloc: Global, system: &System) -> Result<Vec<u32>, AllocError> {
+pub fn order_of(alloc: Global, system: &System) -> Result<Vec<u32>, AllocError> {
     let mut waits = waits_of(alloc, system)?;
     let mut order = Vec::with_capacity(alloc, waits.len())?;
     'starts: for event in 0..system.events() {

@@ -1,6 +1,8 @@
 //! What a choice of at most one rule into each event leads to. Nothing is claimed of it.
 
 use crate::numbered::Step;
+use crate::pending::Pending;
+use rule_system::System;
 use std::alloc::{AllocError, Global};
 
 /// The rule that is chosen into an event.
@@ -88,31 +90,60 @@ fn lowest_event(steps: &[Step], parents: &[Option<u32>], event: u32) -> u32 {
 }
 
 /// Gives each event what the rule chosen into it leads to. An event without one has 0, and one that would have less than 0
-/// loses its rule.
+/// loses its rule. An event whose number rose is pending then, and so are the events with a rule to one whose number fell.
 pub fn evaluate(
     alloc: Global,
-    events: u32,
+    system: &System,
     steps: &[Step],
     numbers: &mut [i64],
     parents: &mut [Option<u32>],
+    pending: &mut Pending,
 ) -> Result<(), AllocError> {
-    let order = tree_order(alloc, events, steps, parents)?;
+    let order = tree_order(alloc, system.events(), steps, parents)?;
     'events: for event in &order {
-        evaluate_one(steps, *event, numbers, parents);
+        evaluate_one(system, steps, *event, numbers, parents, pending);
     }
     Ok(())
 }
 
 /// Gives one event its number.
-fn evaluate_one(steps: &[Step], event: u32, numbers: &mut [i64], parents: &mut [Option<u32>]) {
+fn evaluate_one(
+    system: &System,
+    steps: &[Step],
+    event: u32,
+    numbers: &mut [i64],
+    parents: &mut [Option<u32>],
+    pending: &mut Pending,
+) {
     let number = number_of(steps, event, numbers, parents);
-    if let Some(slot) = numbers.get_mut(event as usize) {
-        *slot = number.max(0);
-    }
     if number < 0
         && let Some(parent) = parents.get_mut(event as usize)
     {
         *parent = None;
+    }
+    let number = number.max(0);
+    let Some(slot) = numbers.get_mut(event as usize) else {
+        return;
+    };
+    let before = *slot;
+    *slot = number;
+    if number > before {
+        pending.add(event);
+    }
+    if number < before {
+        add_sources(system, steps, event, pending);
+    }
+}
+
+/// Makes the events pending that have a rule to an event.
+fn add_sources(system: &System, steps: &[Step], event: u32, pending: &mut Pending) {
+    if event >= system.events() {
+        return;
+    }
+    'rules: for number in system.into_event(event) {
+        if let Some(step) = steps.get(*number as usize) {
+            pending.add(step.source);
+        }
     }
 }
 

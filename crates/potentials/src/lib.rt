@@ -6,6 +6,7 @@ mod choices;
 mod heaviest;
 mod makers;
 mod numbered;
+mod pending;
 mod proposals;
 mod rounds;
 mod settled;

@@ -37,12 +37,15 @@ pub fn steps_by_number(
     Ok(steps)
 }
 
-/// The steps by their targets, in an order of the events in which rules of offset 0 lead onward.
-/// Those into events behind a cycle of such rules are left out.
-pub fn in_order(alloc: Global, system: &System, steps: &[Step]) -> Result<Vec<Step>, AllocError> {
-    let order = order_of(alloc, system)?;
+/// The steps by their targets, in an order of the events.
+pub fn in_order(
+    alloc: Global,
+    system: &System,
+    steps: &[Step],
+    order: &[u32],
+) -> Result<Vec<Step>, AllocError> {
     let mut ordered = Vec::with_capacity(alloc, steps.len())?;
-    'events: for event in &order {
+    'events: for event in order {
         append_into(system, *event, steps, &mut ordered)?;
     }
     Ok(ordered)
@@ -68,7 +71,7 @@ fn append_into(
 
 /// The events in an order in which rules of offset 0 lead onward, by taking away events that no such rule leads to any
 /// more (Kahn 1962). Events behind a cycle of such rules are left out.
-fn order_of(alloc: Global, system: &System) -> Result<Vec<u32>, AllocError> {
+pub fn order_of(alloc: Global, system: &System) -> Result<Vec<u32>, AllocError> {
     let mut before = rules_before(alloc, system)?;
     let mut order = firsts(alloc, system, &before)?;
     'turns: for turn in 0..system.events() {

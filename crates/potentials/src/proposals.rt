@@ -4,7 +4,8 @@
 ghost use Rattle.std.specs.Prelude.{◌≤◌};
 
 use crate::heaviest::parents_of;
-use crate::numbered::{in_order, steps_by_number};
+use crate::numbered::{in_order, order_of, steps_by_number};
+use crate::pending::Pending;
 use crate::settled::settled_numbers;
 use rule_system::System;
 use std::alloc::{AllocError, Global};
@@ -22,9 +23,11 @@ pub fn propose(
     requires bottom { bottom ≤ 491520 }
 {
     let steps = steps_by_number(alloc, system, top, bottom)?;
-    let ordered = in_order(alloc, system, &steps)?;
+    let order = order_of(alloc, system)?;
+    let ordered = in_order(alloc, system, &steps, &order)?;
     let events = system.events();
-    let numbers = settled_numbers(alloc, events, &steps, &ordered)?;
+    let mut pending = Pending::none_of(alloc, order, events)?;
+    let numbers = settled_numbers(alloc, system, &steps, &ordered, &mut pending)?;
     let parents = parents_of(alloc, system, root, &steps, &numbers)?;
     let mut order = Vec::new(alloc);
     search(alloc, system, root, &parents, &mut order)?;
