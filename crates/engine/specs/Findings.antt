@@ -20,14 +20,14 @@ use Rattle.engine.specs.declared.faults.Fault.{Fault}
 use Rattle.engine.specs.declared.faults.Fault.TheVariants.{Line, Memory}
 use Rattle.engine.specs.Answers.{Answer}
 
--- a yes: a text, or a whole netlist with its root, whose analysis is to be told
-pub data Yes : Type 0 where
-  Printed : List ℕ → Yes
-  Analysed : List Cell → Circuit → ℕ → Yes
+-- what is due where nothing is refused so far: a text, or the analysis of a whole netlist from its root
+pub data Due : Type 0 where
+  Printed : List ℕ → Due
+  Analysed : List Cell → Circuit → ℕ → Due
 
--- a yes, or a fault
+-- what is due, or a fault
 abbrev pub Finding : Type 0
-Finding = Result Yes Fault
+Finding = Result Due Fault
 
 -- the line of a netlist that is not whole; a net is told by its name, a tick by its position
 abbrev pub whole_line : Circuit → WholeFault → FaultLine

@@ -80,6 +80,6 @@ abbrev pub command_verdict : Files → Option Command → Finding
 command_verdict files None = Err (Line Usage)
 command_verdict files (Some command) = read_then command.library (library_verdict files command) (map.get files command.library)
 
--- the first refusal on the way, or a yes
+-- the first refusal before any analysis, or what is due
 abbrev pub verdict : List (List ℕ) → Files → Finding
 verdict words files = command_verdict files (command_of words)

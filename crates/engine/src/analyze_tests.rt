@@ -2,14 +2,17 @@ use crate::Outcome;
 use crate::tests::{
     LIBRARY, file, is_written, netlist_bytes, push_written, run, wide_library, wide_ring,
 };
-use cyc_port::{MemShelf, MemSink, SinkStop};
+use cyc_port::{MemShelf, MemSink, Shelf, SinkStop};
 use std::alloc::{AllocError, Global};
 use std::test::Fail;
 use std::thread::Threads;
 
 /// A C-element, alone and with a reset that has no arc, behind the cells of the tables.
 const C_ELEMENTS: &str =
-    "[cell.C2]\ninputs = [\"A\", \"B\"]\noutput = \"Z\"\narcs = [{ from = \"A\", sense = \"pos\", rise = 20, fall = 18 }, { from = \"B\", sense = \"pos\", rise = 20, fall = 18 }]\narea = 12\nfunction = \"C\"\n[cell.C2R]\ninputs = [\"A\", \"B\", \"R\"]\noutput = \"Z\"\narcs = [{ from = \"A\", sense = \"pos\", rise = 20, fall = 18 }, { from = \"B\", sense = \"pos\", rise = 20, fall = 18 }]\n";
+    "[cell.C2]\ninputs = [\"A\", \"B\"]\noutput = \"Z\"\narcs = [{ from = \"A\", sense = \"pos\", rise = 20, fall = 18 }, { from = \"B\", sense = \"pos\", rise = 20, fall = 18 }]\n[cell.C2R]\ninputs = [\"A\", \"B\", \"R\"]\noutput = \"Z\"\narcs = [{ from = \"A\", sense = \"pos\", rise = 20, fall = 18 }, { from = \"B\", sense = \"pos\", rise = 20, fall = 18 }]\n";
+
+/// Keys that a library's reader passes over.
+const FURTHER_KEYS: &str = "area = 12\nfunction = \"C\"\n";
 
 /// A netlist on each line, in the writing of the tables, and what is written for it: the report, or the line of a fault.
 const ANALYSES: &str = "\
@@ -25,6 +28,26 @@ net A|inst x X1 A=A Z=A|tick A+ A+ 1|tick A- A- 1|tick A- A+ 1|root A+| => perio
 net A|inst x X1 A=A Z=A|tick A+ A+ 1|tick A- A- 1|tick A- A+ 1|root A-|fork a A- A+ A- 0 1|fork b A+ A- A+ 0 15|fork c A- A- A- 12 1| => period 12/1|cycle 2 12 1|step 2 A+ A- 5 0|step 1 A- A+ 7 1|arrival A+ -5/1|arrival A- 0/1|fork a 17/1 met|fork b 175/1 met|fork c 0/1 met|end|
 net A|net B|net C|const rst|inst i1 INV A=A Z=B|inst i2 INV A=B Z=C|inst i3 NOR2 A=C B=rst Z=A|tick C- A+ 1|root A+| => period 66/1|cycle 6 66 1|step 1 A+ B- 10 0|step 2 B- C+ 12 0|step 5 C+ A- 10 0|step 0 A- B+ 12 0|step 3 B+ C- 10 0|step 4 C- A+ 12 1|arrival A+ 0/1|arrival A- 32/1|arrival B+ 44/1|arrival B- 10/1|arrival C+ 22/1|arrival C- 54/1|end|
 %fork f1 A+ C+ A- 0 0|fork f2 A+ C+ A- 10 0|fork f3 A+ C+ A- 11 0| => period 66/1|cycle 6 66 1|step 1 A+ B- 10 0|step 2 B- C+ 12 0|step 5 C+ A- 10 0|step 0 A- B+ 12 0|step 3 B+ C- 10 0|step 4 C- A+ 12 1|arrival A+ 0/1|arrival A- 32/1|arrival B+ 44/1|arrival B- 10/1|arrival C+ 22/1|arrival C- 54/1|fork f1 10/1 met|fork f2 0/1 met|fork f3 -1/1 missed|end|
+net F|net A|net B|net C|inst i1 INV A=A Z=B|inst i2 INV A=B Z=C|inst i4 INV A=B Z=F|inst i3 NOR2 A=C B=F Z=A|delay i4 A 1 1|tick C- A+ 1|tick F- A+ 1|root A+|fork own F+ F+ A- 15 0|fork z A+ F+ A- 15 0|fork y F+ A+ F+ 0 1|fork x F- F- F+ 0 0| => period 66/1|cycle 6 66 1|step 1 A+ B- 10 0|step 2 B- C+ 12 0|step 7 C+ A- 10 0|step 0 A- B+ 12 0|step 3 B+ C- 10 0|step 6 C- A+ 12 1|arrival F+ 11/1|arrival F- 45/1|arrival A+ 0/1|arrival A- 32/1|arrival B+ 44/1|arrival B- 10/1|arrival C+ 22/1|arrival C- 54/1|fork own -5/1 missed|fork z 6/1 met|fork y 88/1 met|fork x -43/1 missed|end|
+net F|net A|net B|net C|inst i1 INV A=A Z=B|inst i2 INV A=B Z=C|inst i4 INV A=B Z=F|inst i3 NOR2 A=C B=F Z=A|delay i4 A 1 1|tick C- A+ 1|tick F- A+ 1|root F+| => period 66/1|cycle 6 66 1|step 1 A+ B- 10 0|step 2 B- C+ 12 0|step 7 C+ A- 10 0|step 0 A- B+ 12 0|step 3 B+ C- 10 0|step 6 C- A+ 12 1|arrival F+ 0/1|arrival F- 23/1|arrival A+ -22/1|arrival A- 10/1|arrival B+ 22/1|arrival B- -12/1|arrival C+ 0/1|arrival C- 32/1|end|
+$tick C- A+ 2|root A+|tick C+ A- 2|fork f A+ B- C+ 6 1|fork g A+ C+ A- 0 0|fork h A+ A- A+ 1 0| => period 33/2|cycle 6 66 4|step 1 A+ B- 10 0|step 2 B- C+ 12 0|step 5 C+ A- 10 2|step 0 A- B+ 12 0|step 3 B+ C- 10 0|step 4 C- A+ 12 2|arrival A+ 0/2|arrival A- -2/2|arrival B+ 22/2|arrival B- 20/2|arrival C+ 44/2|arrival C- 42/2|fork f 45/2 met|fork g -46/2 missed|fork h 0/2 met|end|
+$tick A- B+ 15|tick A+ B- 15|tick B- C+ 15|tick B+ C- 15|tick C- A+ 15|tick C+ A- 15|root A+| => period 11/15|cycle 6 66 90|step 1 A+ B- 10 15|step 2 B- C+ 12 15|step 5 C+ A- 10 15|step 0 A- B+ 12 15|step 3 B+ C- 10 15|step 4 C- A+ 12 15|arrival A+ 0/15|arrival A- -15/15|arrival B+ 0/15|arrival B- -15/15|arrival C+ 0/15|arrival C- -15/15|end|
+net A|net B|net C|inst l BUF A=A Z=B|inst m BUF A=B Z=C|inst j NOR2 A=C B=A Z=A|delay l A 1 1|delay m A 1 1|delay j A 1 1|delay j B 3 3|tick C- A+ 1|tick A- A+ 1|root A+| => period 6/1|cycle 2 6 1|step 7 A+ A- 3 0|step 6 A- A+ 3 1|arrival A+ 0/1|arrival A- 3/1|arrival B+ 1/1|arrival B- 4/1|arrival C+ 2/1|arrival C- 5/1|end|
+net A|inst x X1 A=A Z=A|delay x A 5 0|tick A+ A+ 1|tick A- A- 1|tick A- A+ 1|root A-| => period 5/1|cycle 1 5 1|step 0 A+ A+ 5 1|arrival A+ 0/1|arrival A- 0/1|end|
+net A|inst x X1 A=A Z=A|delay x A 1000000 999999|tick A+ A+ 1|tick A- A- 15|tick A- A+ 15|tick A+ A- 15|root A-|fork f A+ A+ A- 1000000 15| => period 1000000/1|cycle 1 1000000 1|step 0 A+ A+ 1000000 1|arrival A+ -14000000/1|arrival A- 0/1|fork f -1/1 missed|end|
+net A|net B|inst i INV A=A Z=B|inst c C2 A=B B=B Z=A|delay c A 19 18|tick B+ A+ 1|root A+| => period 60/1|cycle 4 60 1|step 1 A+ B- 10 0|step 3 B- A- 18 0|step 0 A- B+ 12 0|step 4 B+ A+ 20 1|arrival A+ 0/1|arrival A- 28/1|arrival B+ 40/1|arrival B- 10/1|end|
+net C|net A|net B|inst i3 INV A=C Z=A|inst i1 INV A=A Z=B|inst i2 INV A=B Z=C|tick C- A+ 1|root B-| => period 66/1|cycle 6 66 1|step 1 C+ A- 10 0|step 2 A- B+ 12 0|step 5 B+ C- 10 0|step 0 C- A+ 12 1|step 3 A+ B- 10 0|step 4 B- C+ 12 0|arrival C+ 12/1|arrival C- 44/1|arrival A+ -10/1|arrival A- 22/1|arrival B+ 34/1|arrival B- 0/1|end|
+const c|net a[0]|const d|net b/c.1_|inst u/1 NOR2 A=a[0] B=c Z=b/c.1_|inst u.2 BUF A=b/c.1_ Z=a[0]|tick b/c.1_+ a[0]+ 1|root a[0]+|fork x[1] a[0]+ b/c.1_- a[0]- 9 0| => period 39/1|cycle 4 39 1|step 1 a[0]+ b/c.1_- 10 0|step 3 b/c.1_- a[0]- 8 0|step 0 a[0]- b/c.1_+ 12 0|step 2 b/c.1_+ a[0]+ 9 1|arrival a[0]+ 0/1|arrival a[0]- 18/1|arrival b/c.1_+ 30/1|arrival b/c.1_- 10/1|fork x[1] -1/1 missed|end|
+net A|net B|net C|net D|inst i1 INV A=A Z=B|inst i2 INV A=B Z=C|inst i4 INV A=B Z=D|inst i3 NOR2 A=C B=D Z=A|tick C- A+ 1|root D-| => fault: netlist V3 A+ B- C+ A- B+ D-|
+net A|net B|net C|inst l BUF A=A Z=B|inst m BUF A=B Z=C|inst j NOR2 A=C B=A Z=A|root C-| => fault: netlist V3 A+ A-|
+net A|net B|net C|inst l BUF A=A Z=B|inst m BUF A=B Z=C|inst j NOR2 A=C B=A Z=A|tick A+ A- 1|root C-| => fault: netlist V3 A+ B+ C+ A-|
+net A|inst x X1 A=A Z=A|tick A+ A+ 1|tick A- A+ 1|root A+| => fault: netlist V3 A-|
+net D|net A|net B|inst i4 BUF A=A Z=D|inst b1 BUF A=A Z=B|inst b2 BUF A=B Z=A|tick B+ A+ 1|tick B- A- 1|root A+| => fault: netlist V1 D-|
+const c|net A|inst i INV A=c Z=A|root A-| => fault: netlist V1 A+|
+%tick A+ B- 1|tick A+ C+ 1|tick A+ B- 0| => fault: netlist H3 2|
+%tick A+ C+ 1|tick C- A+ 0|tick C- A+ 1| => fault: netlist H3 1|
+net A|net B|inst i1 INV A=A Z=B|inst c C2R A=B B=B R=A Z=A|tick B+ A+ 1|tick A+ A+ 1|root A+| => fault: netlist H3 2|
+net A|net B|net C|inst i2 INV A=B Z=C|inst i1 INV A=C Z=A|root A+|tick B+ B+ 1| => fault: netlist H1 B|
 $root A+| => fault: netlist V3 A+ B- C+ A- B+ C-|
 net A|net B|inst b1 BUF A=A Z=B|inst b2 BUF A=B Z=A|tick B+ A+ 1|tick B- A- 1|root A+| => fault: netlist V1 A-|
 net A|net B|inst b1 BUF A=A Z=B|inst b2 BUF A=B Z=A|root A-| => fault: netlist V1 A+|
@@ -59,9 +82,17 @@ fn shelf(
     Ok(MemShelf::new(files, fail))
 }
 
-/// The cells of the tables and the C-elements.
+/// The cells of the tables and the C-elements, each with further keys.
 fn cells(alloc: Global) -> Result<String, AllocError> {
-    format!(in alloc; "{LIBRARY}{C_ELEMENTS}")
+    let mut text = String::new(alloc);
+    for line in LIBRARY.lines().chain(C_ELEMENTS.lines()) {
+        text.push_str(line)?;
+        text.push_str("\n")?;
+        if line.starts_with("output") {
+            text.push_str(FURTHER_KEYS)?;
+        }
+    }
+    Ok(text)
 }
 
 /// What `analyze lib.toml ring.net` answers over these bytes.
@@ -138,6 +169,88 @@ fn failing_calls_of_analyze(rt: HostRuntime) -> Result<(), Fail> {
     let (outcome, sink) = failing(&rt, alloc, vec![in alloc; 1]?, stops)?;
     assert_eq!(rt; outcome.status, 7);
     assert_eq!(rt; sink.bytes(), b"fau".as_slice());
+    Ok(())
+}
+
+/// Whether a text begins and ends so, and its status is 0.
+fn is_framed(outcome: &Outcome, sink: &MemSink, front: &str, back: &str) -> bool {
+    let text = sink.bytes();
+    outcome.status == 0 && text.starts_with(front.as_bytes()) && text.ends_with(back.as_bytes())
+}
+
+#[test]
+fn the_most_rules_to_analyze(rt: HostRuntime) -> Result<(), Fail> {
+    let alloc = rt.alloc();
+    let library = wide_library(alloc)?;
+    let mut netlist = wide_ring(alloc)?;
+    netlist.push_str("root m0+\ntick m2047+ m0+ 1\ntick m2047- m0+ 1\n")?;
+    netlist.push_str("tick m2047+ m0- 1\ntick m2047- m0- 1\n")?;
+    let (outcome, sink) = analyze(&rt, alloc, library.as_bytes(), netlist.as_bytes())?;
+    let front = "period 14336/1\ncycle 2048 14336 1\nstep 64 m0+ m1+ 7 0\n";
+    let back = "arrival m2047+ 14329/1\narrival m2047- 14327/1\nend\n";
+    assert!(rt; is_framed(&outcome, &sink, front, back));
+    Ok(())
+}
+
+/// A ring of 33 inverters with 256 forks on 64 roots.
+fn forked_ring(alloc: Global) -> Result<String, AllocError> {
+    let mut text = String::new(alloc);
+    for i in 0..33u32 {
+        text.push_str(format!(in alloc; "net n{i}\n")?.as_str())?;
+    }
+    for i in 0..33u32 {
+        let to = if i == 32 { 0 } else { i + 1 };
+        text.push_str(format!(in alloc; "inst i{i} INV A=n{i} Z=n{to}\n")?.as_str())?;
+    }
+    text.push_str("tick n32- n0+ 1\nroot n0+\n")?;
+    for i in 0..256u32 {
+        let net = i % 32;
+        let edge = if i % 64 < 32 { "+" } else { "-" };
+        text.push_str(format!(in alloc; "fork f{i} n{net}{edge} n0+ n0- 0 0\n")?.as_str())?;
+    }
+    Ok(text)
+}
+
+#[test]
+fn the_most_forks_and_roots(rt: HostRuntime) -> Result<(), Fail> {
+    let alloc = rt.alloc();
+    let netlist = forked_ring(alloc)?;
+    let (outcome, sink) = analyze(&rt, alloc, LIBRARY.as_bytes(), netlist.as_bytes())?;
+    let front = "period 726/1\ncycle 66 726 1\nstep 1 n0+ n1- 10 0\n";
+    let back = "fork f254 362/1 met\nfork f255 362/1 met\nend\n";
+    assert!(rt; is_framed(&outcome, &sink, front, back));
+    Ok(())
+}
+
+#[test]
+fn each_file_is_judged_before_the_next_is_read(rt: HostRuntime) -> Result<(), Fail> {
+    let alloc = rt.alloc();
+    let netlist = netlist_bytes(alloc, "%")?;
+    let mut shelf = shelf(alloc, b"x = ", &netlist, vec![in alloc; 1]?)?;
+    let words = "analyze lib.toml ring.net";
+    let (outcome, sink) = run(&rt, alloc, words, &mut shelf, Vec::new(alloc))?;
+    assert!(rt; is_written(&outcome, &sink, b"fault: library L1\n"));
+    // The library took call 0 alone, so this is call 1, which fails.
+    assert!(rt; shelf.read_all(alloc, "ring.net").is_err());
+    assert!(rt; shelf.read_all(alloc, "ring.net").is_ok());
+    Ok(())
+}
+
+#[test]
+fn a_text_is_written_at_once(rt: HostRuntime) -> Result<(), Fail> {
+    let alloc = rt.alloc();
+    for line in [
+        "expand lib.toml ring.net",
+        "analyze lib.toml ring.net",
+        "analyze",
+    ] {
+        let netlist = netlist_bytes(alloc, "%")?;
+        let mut shelf = shelf(alloc, LIBRARY.as_bytes(), &netlist, Vec::new(alloc))?;
+        let stops = vec![in alloc; SinkStop { call: 1, taken: 0 }]?;
+        let (outcome, sink) = run(&rt, alloc, line, &mut shelf, stops)?;
+        assert!(rt; outcome.status == 0 || outcome.status == 2);
+        assert!(rt; sink.bytes().ends_with(b"\n"));
+    }
     Ok(())
 }
 

@@ -28,6 +28,11 @@ net A|net B|net C|const rst|inst i1 INV A=A Z=B|inst i2 INV A=B Z=C|inst i3 NOR2
 %tick C- A+ 0| => $
 net n123456789012345678901234567890123456789012345678901234567890123| => events 2 rules 0|
 net n1234567890123456789012345678901234567890123456789012345678901234| => fault: netlist line 1 S1|
+net A#B| => events 2 rules 0|
+net A ~ | => fault: netlist line 1 syntax|
+net A|~ => fault: netlist line 2 syntax|
+net A|net B|inst n NOR2 B=B Z=A A=A|delay n B 1 2|delay n B 3 4| => events 4 rules 4|rule 0 A- A+ 12 0|rule 1 A+ A- 10 0|rule 2 B- A+ 3 0|rule 3 B+ A- 4 0|
+%tick C- A+ 16| => fault: netlist line 9 S11 16|
 foo| => fault: netlist line 1 syntax|
 # a|| foo # b| => fault: netlist line 3 syntax|
 ticks| => fault: netlist line 1 syntax|
@@ -124,6 +129,10 @@ analyze lib.toml bare.net => fault: netlist H2|
 analyze => fault: usage|
 analyze lib.toml => fault: usage|
 analyze lib.toml bare.net --workers 1 => fault: usage|
+analyze lib.toml bare.net --workers 0 => fault: usage|
+analyze lib.toml bare.net --workers 65 => fault: usage|
+analyze lib.toml lib.toml => fault: netlist line 1 syntax|
+expand lib.toml a-b => fault: read a-b|
 analyze lib.toml bare.net bare.net => fault: usage|
 analyze lib.toml - => fault: usage|
 analyze none.toml bare.net => fault: read none.toml|
