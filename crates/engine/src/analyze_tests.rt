@@ -2,7 +2,7 @@ use crate::Outcome;
 use crate::tests::{
     LIBRARY, file, is_written, netlist_bytes, push_written, run, wide_library, wide_ring,
 };
-use cyc_port::{MemShelf, MemSink, Shelf, SinkStop};
+use cyc_port::{MemShelf, MemSink, SinkStop};
 use std::alloc::{AllocError, Global};
 use std::test::Fail;
 use std::thread::Threads;
@@ -48,6 +48,10 @@ const c|net A|inst i INV A=c Z=A|root A-| => fault: netlist V1 A+|
 %tick A+ C+ 1|tick C- A+ 0|tick C- A+ 1| => fault: netlist H3 1|
 net A|net B|inst i1 INV A=A Z=B|inst c C2R A=B B=B R=A Z=A|tick B+ A+ 1|tick A+ A+ 1|root A+| => fault: netlist H3 2|
 net A|net B|net C|inst i2 INV A=B Z=C|inst i1 INV A=C Z=A|root A+|tick B+ B+ 1| => fault: netlist H1 B|
+%tick B- C+ 1|tick A+ C+ 1|tick C- A+ 0| => fault: netlist H3 2|
+%tick B+ A- 1| => fault: netlist H3 2|
+net Z|net A|root A+| => fault: netlist H1 Z|
+net A|const r|inst c C2R A=A B=A R=r Z=A|delay c R 1 1| => fault: netlist line 4 S10|
 $root A+| => fault: netlist V3 A+ B- C+ A- B+ C-|
 net A|net B|inst b1 BUF A=A Z=B|inst b2 BUF A=B Z=A|tick B+ A+ 1|tick B- A- 1|root A+| => fault: netlist V1 A-|
 net A|net B|inst b1 BUF A=A Z=B|inst b2 BUF A=B Z=A|root A-| => fault: netlist V1 A+|
@@ -172,6 +176,34 @@ fn failing_calls_of_analyze(rt: HostRuntime) -> Result<(), Fail> {
     Ok(())
 }
 
+/// A ring of 513 inverters with two ticks an instance, and one more between whose events there is no rule.
+fn ticked_ring(alloc: Global) -> Result<String, AllocError> {
+    let mut text = String::new(alloc);
+    for i in 0..513u32 {
+        text.push_str(format!(in alloc; "net n{i}\n")?.as_str())?;
+    }
+    for i in 0..513u32 {
+        let from = if i == 0 { 512 } else { i - 1 };
+        text.push_str(format!(in alloc; "inst i{i} INV A=n{from} Z=n{i}\n")?.as_str())?;
+        text.push_str(format!(in alloc; "tick n{from}- n{i}+ 1\n")?.as_str())?;
+        text.push_str(format!(in alloc; "tick n{from}+ n{i}- 2\n")?.as_str())?;
+    }
+    text.push_str("root n0+\ntick n0+ n0+ 1\n")?;
+    Ok(text)
+}
+
+#[test]
+fn an_idle_tick_behind_many(rt: HostRuntime) -> Result<(), Fail> {
+    let alloc = rt.alloc();
+    let mut netlist = ticked_ring(alloc)?;
+    let (outcome, sink) = analyze(&rt, alloc, LIBRARY.as_bytes(), netlist.as_bytes())?;
+    assert!(rt; is_written(&outcome, &sink, b"fault: netlist H3 1027\n"));
+    netlist.push_str("tick n512- n0+ 0\n")?;
+    let (outcome, sink) = analyze(&rt, alloc, LIBRARY.as_bytes(), netlist.as_bytes())?;
+    assert!(rt; is_written(&outcome, &sink, b"fault: netlist H3 1026\n"));
+    Ok(())
+}
+
 /// Whether a text begins and ends so, and its status is 0.
 fn is_framed(outcome: &Outcome, sink: &MemSink, front: &str, back: &str) -> bool {
     let text = sink.bytes();
@@ -230,9 +262,9 @@ fn each_file_is_judged_before_the_next_is_read(rt: HostRuntime) -> Result<(), Fa
     let words = "analyze lib.toml ring.net";
     let (outcome, sink) = run(&rt, alloc, words, &mut shelf, Vec::new(alloc))?;
     assert!(rt; is_written(&outcome, &sink, b"fault: library L1\n"));
-    // The library took call 0 alone, so this is call 1, which fails.
-    assert!(rt; shelf.read_all(alloc, "ring.net").is_err());
-    assert!(rt; shelf.read_all(alloc, "ring.net").is_ok());
+    // The refused library took call 0 alone, so the next run's first call is call 1, which fails.
+    let (outcome, sink) = run(&rt, alloc, words, &mut shelf, Vec::new(alloc))?;
+    assert!(rt; is_written(&outcome, &sink, b"fault: read lib.toml\n"));
     Ok(())
 }
 

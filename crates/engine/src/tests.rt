@@ -6,7 +6,7 @@ use std::test::Fail;
 use std::thread::Threads;
 
 pub(crate) const LIBRARY: &str =
-    "[cell.BUF]\ninputs = [\"A\"]\noutput = \"Z\"\narcs = [{ from = \"A\", sense = \"pos\", rise = 9, fall = 8 }]\n[cell.INV]\ninputs = [\"A\"]\noutput = \"Z\"\narcs = [{ from = \"A\", sense = \"neg\", rise = 12, fall = 10 }]\n[cell.NOR2]\ninputs = [\"A\", \"B\"]\noutput = \"Z\"\narcs = [{ from = \"A\", sense = \"neg\", rise = 12, fall = 10 }, { from = \"B\", sense = \"neg\", rise = 12, fall = 10 }]\n[cell.X1]\ninputs = [\"A\"]\noutput = \"Z\"\narcs = [{ from = \"A\", sense = \"non\", rise = 7, fall = 5 }]\n";
+    "[cell.BUF]\ninputs = [\"A\"]\noutput = \"Z\"\narcs = [{ from = \"A\", sense = \"pos\", rise = 9, fall = 8 }]\n[cell.INV]\ninputs = [\"A\"]\noutput = \"Z\"\narcs = [{ from = \"A\", sense = \"neg\", rise = 12, fall = 10 }]\n[cell.NOR2]\ninputs = [\"A\", \"B\"]\noutput = \"Z\"\narcs = [{ from = \"A\", sense = \"neg\", rise = 12, fall = 10 }, { from = \"B\", sense = \"neg\", rise = 12, fall = 10 }]\n[cell.X1]\ninputs = [\"A\"]\noutput = \"Z\"\narcs = [{ from = \"A\", sense = \"non\", rise = 7, fall = 5 }]\n[cell.R2]\ninputs = [\"A\", \"B\"]\noutput = \"Z\"\narcs = [{ from = \"B\", sense = \"neg\", rise = 12, fall = 10 }, { from = \"A\", sense = \"pos\", rise = 9, fall = 8 }]\n[cell.TIE]\ninputs = []\noutput = \"Z\"\narcs = []\n";
 
 /// Three inverters in a ring, in the writing of the tables.
 const BARE: &str = "net A|net B|net C|inst i1 INV A=A Z=B|inst i2 INV A=B Z=C|inst i3 INV A=C Z=A|";
@@ -29,6 +29,25 @@ net A|net B|net C|const rst|inst i1 INV A=A Z=B|inst i2 INV A=B Z=C|inst i3 NOR2
 net n123456789012345678901234567890123456789012345678901234567890123| => events 2 rules 0|
 net n1234567890123456789012345678901234567890123456789012345678901234| => fault: netlist line 1 S1|
 net A#B| => events 2 rules 0|
+net A\u{c}| => fault: netlist line 1 S1|
+net A\u{0}| => fault: netlist line 1 S1|
+\u{feff}net A| => fault: netlist line 1 syntax|
+net A|inst i1 INV A=Q Y=A Z=A| => fault: netlist line 2 S3|
+net A|inst i1 INV A=Q A=A Z=A| => fault: netlist line 2 S3|
+net A|net B|inst i1 INV A=A Z=B|inst n NOR2 A=A Z=B| => fault: netlist line 4 S7|
+net A|inst B INV A=A Z=A|net B|inst A BUF A=A Z=B|fork A A+ A+ A- 0 0|fork B A+ A+ A- 0 0| => events 4 rules 4|rule 0 A- A+ 12 0|rule 1 A+ A- 10 0|rule 2 A+ B+ 9 0|rule 3 A- B- 8 0|
+net A|net B|inst r R2 A=A B=B Z=A|inst t TIE Z=B|delay r A 1 2| => events 4 rules 4|rule 0 B- A+ 12 0|rule 1 B+ A- 10 0|rule 2 A+ A+ 1 0|rule 3 A- A- 2 0|
+%inst i- NONE Q=Q Z| => fault: netlist line 9 syntax|
+%fork f- A+ C+ A- 0 x| => fault: netlist line 9 syntax|
+%delay i1 A 1 1 1| => fault: netlist line 9 syntax|
+%tick C- A+ 1 1| => fault: netlist line 9 syntax|
+%tick C- A+ 4294967297| => fault: netlist line 9 S11 4294967297|
+%root D+| => fault: netlist line 9 S13|
+%fork f1 A+ C+ D- 1000001 0| => fault: netlist line 9 S13|
+%fork f1 D+ C+ A- 1000001 0| => fault: netlist line 9 S13|
+%move i1 A C| => fault: netlist line 9 syntax|
+%swap i1 INV| => fault: netlist line 9 syntax|
+%fork f A+ A+ A- 0 0|delfork f| => fault: netlist line 10 syntax|
 net A ~ | => fault: netlist line 1 syntax|
 net A|~ => fault: netlist line 2 syntax|
 net A|net B|inst n NOR2 B=B Z=A A=A|delay n B 1 2|delay n B 3 4| => events 4 rules 4|rule 0 A- A+ 12 0|rule 1 A+ A- 10 0|rule 2 B- A+ 3 0|rule 3 B+ A- 4 0|
@@ -96,6 +115,12 @@ const c|root c+| => fault: netlist line 2 S13|
 /// A library on each line, and the line of its fault.
 const LIBRARIES: &str = "\
 x =  => fault: library L1|
+[cell.c2]|inputs = []|output = \"Z\"|arcs = []|[cell.c10]| => fault: library L2 cell 1|
+[cell.A]|inputs = [\"a\",\"b\",\"c\",\"d\",\"e\",\"f\",\"g\",\"h\",\"i\",\"j\",\"k\",\"l\",\"m\",\"n\",\"o\",\"p\",\"q\"]|arcs = []| => fault: library L2 cell 1|
+[cell.A]|inputs = [\"A\", \"B\"]|output = \"Z\"|arcs = [{ from = \"A\", sense = \"pos\", rise = 1, fall = 1000001 }, { from = \"A\", sense = \"pos\", rise = 1, fall = 1 }, { from = \"Q\", sense = \"pos\", rise = 1, fall = 1 }, { from = \"B\", sense = \"up\", rise = 1, fall = 1 }]| => fault: library L8 cell 1 arc 1|
+[cell.A]|inputs = [\"A\", \"a-b\"]|output = \"Z+\"|arcs = []| => fault: library L3 cell 1 pin 2|
+[cell.A]|inputs = [\"A\"]|output = \"Z\"|arcs = [{ from = \"A\", sense = \"pos\", rise = 4294967297, fall = 1 }]| => fault: library L8 cell 1 arc 1|
+[cell.A]|inputs = [\"A\"]|output = \"Z\"|[[cell.A.arcs]]|from = \"A\"|sense = \"pos\"|rise = 1|fall = 1| => events 0 rules 0|
 ? => fault: library L1|
 cell = 1| => fault: library L2 cell 0|
 [cell]|A = 1| => fault: library L2 cell 1|
@@ -472,6 +497,70 @@ fn the_most_of_each(rt: HostRuntime) -> Result<(), Fail> {
     Ok(())
 }
 
+/// Whether `expand` writes this for a front, so many numbered lines and a back.
+fn is_limit<R: Threads + Sync>(
+    rt: &R,
+    alloc: Global,
+    lines: (&str, u32, &str),
+    back: &str,
+    wanted: &str,
+) -> Result<bool, AllocError> {
+    let (front, count, tail) = lines;
+    let text = numbered(alloc, front, count, tail)?;
+    let all = format!(in alloc; "net A\n{text}{back}\n")?;
+    let (outcome, sink) = expand(rt, alloc, LIBRARY.as_bytes(), all.as_bytes())?;
+    Ok(is_written(&outcome, &sink, wanted.as_bytes()))
+}
+
+#[test]
+fn limits_and_other_faults(rt: HostRuntime) -> Result<(), Fail> {
+    let alloc = rt.alloc();
+    let nets = ("net n", 16_383, "");
+    assert!(rt; is_limit(&rt, alloc, nets, "net n0", "fault: netlist line 16385 S2\n")?);
+    assert!(rt; is_limit(&rt, alloc, nets, "net A-", "fault: netlist line 16385 S1\n")?);
+    assert!(rt; is_limit(&rt, alloc, nets, "const d", "events 32768 rules 0\n")?);
+    let consts = ("const c", 1_024, "");
+    assert!(rt;
+        is_limit(
+            &rt,
+            alloc,
+            consts,
+            "const c0",
+            "fault: netlist line 1026 S2\n"
+        )?
+    );
+    assert!(rt; is_limit(&rt, alloc, consts, "net d", "events 4 rules 0\n")?);
+    let forks = ("fork f", 256, " A+ A+ A+ 0 0");
+    assert!(rt;
+        is_limit(
+            &rt,
+            alloc,
+            forks,
+            "fork f0 B+ A+ A+ 0 0",
+            "fault: netlist line 258 S15\n"
+        )?
+    );
+    assert!(rt;
+        is_limit(
+            &rt,
+            alloc,
+            forks,
+            "fork g B+ A+ A+ 1000001 0",
+            "fault: netlist line 258 S13\n"
+        )?
+    );
+    assert!(rt;
+        is_limit(
+            &rt,
+            alloc,
+            forks,
+            "fork g A+ A+ A+ 0 16",
+            "fault: netlist line 258 S11 16\n"
+        )?
+    );
+    Ok(())
+}
+
 /// A fork of each of the first events of some nets.
 fn rooted_forks(alloc: Global, count: u32) -> Result<String, AllocError> {
     let mut text = String::new(alloc);
@@ -491,7 +580,11 @@ fn the_most_roots(rt: HostRuntime) -> Result<(), Fail> {
     let (outcome, sink) = limit_line(&rt, alloc, nets.as_str(), forks.as_str())?;
     assert!(rt; is_written(&outcome, &sink, b"fault: netlist line 98 S18 roots\n"));
     let mut forks = rooted_forks(alloc, 64)?;
-    forks.push_str("fork again n0+ n0+ n0- 0 0\n")?;
+    forks.push_str("fork h n32+ n0+ n0+ 1000001 0\n")?;
+    let (outcome, sink) = limit_line(&rt, alloc, nets.as_str(), forks.as_str())?;
+    assert!(rt; is_written(&outcome, &sink, b"fault: netlist line 98 S11 1000001\n"));
+    let mut forks = rooted_forks(alloc, 64)?;
+    forks.push_str("fork again n0+ n0+ n0- 0 0\nroot n32-\n")?;
     let (outcome, sink) = limit_line(&rt, alloc, nets.as_str(), forks.as_str())?;
     assert!(rt; is_written(&outcome, &sink, b"events 66 rules 0\n"));
     Ok(())

@@ -1,9 +1,8 @@
 ghost use Rattle.netlist_model.specs.Sound.{Fits};
 
-use crate::{expand, forks_of};
+use crate::expand;
 use cell_arcs::Library;
 use cyc_text::Text;
-use fork_slack::ForkOf;
 use netlist_model::{EventName, Netlist, PinNet, PinNets};
 use rule_system::Rule;
 use std::alloc::Global;
@@ -152,25 +151,5 @@ fn expands_each_sense(rt: HostRuntime) -> Result<(), Fail> {
     let library = cells(rt.alloc())?;
     let rules = mixed_rules(&rt, rt.alloc(), &library)?;
     assert_eq!(rt; rules.as_str(), MIXED);
-    Ok(())
-}
-
-#[test]
-fn forks_keep_their_events(rt: HostRuntime) -> Result<(), Fail> {
-    let alloc = rt.alloc();
-    let mut net = Netlist::empty(alloc)?;
-    net.add_net(b"A")?;
-    let rise = event(alloc, "A", true)?;
-    let fall = event(alloc, "A", false)?;
-    net.add_fork(b"f", &rise, &fall, &rise, 7, 3)?;
-    let forks = forks_of(alloc, &net)?;
-    let wanted = ForkOf {
-        root: 0,
-        fast: 1,
-        slow: 0,
-        margin: 7,
-        offset: 3,
-    };
-    assert!(rt; forks.first() == Some(&wanted));
     Ok(())
 }
