@@ -11,7 +11,7 @@ use Rattle.cyc_text.proofs.LineLemmas.{parts-cons, none_before}
 use Rattle.cyc_text.proofs.WordLemmas.{kept, before_first-cons_no}
 
 -- a test of a list, of its head and of its tail
-head_of : (P : List ℕ → Type 0) (x : List ℕ) (xs : List (List ℕ)) → All P (x ∷ xs) → P x
+pub head_of : (P : List ℕ → Type 0) (x : List ℕ) (xs : List (List ℕ)) → All P (x ∷ xs) → P x
 head_of P x xs all = all zero [] (omega arith)
 
 tail_of : (P : List ℕ → Type 0) (x : List ℕ) (xs : List (List ℕ)) → All P (x ∷ xs) → All P xs

@@ -6,14 +6,14 @@ use Rattle.std.proofs.lemmas.List.Splits.{slice_split_first, slice_split_none}
 use Rattle.std.proofs.lemmas.List.Sums.{fails_before_first, passes_at_first, position_or_len_is, prefix_len-le-length}
 use Rattle.std.proofs.lemmas.List.{take_all, take-take, drop_all, drop-drop, drop_more, length-take}
 use Rattle.std.proofs.lemmas.Slice.{between_is}
-use Rattle.std.specs.List.{slice_split, position_or_len, before_first, after_first, list_any, filter, slice_range}
+use Rattle.std.specs.List.{slice_split, position_or_len, before_first, after_first, list_all, list_any, filter, slice_range}
 use Rattle.cyc_text.specs.Words.{is_hash, is_blank, is_no_blank, ends_word, runs_of}
 
 -- one more byte that is not sought, and one that is
-position_or_len-cons_no : (p : ℕ → Bool) (x : ℕ) (xs : List ℕ) → p x ≡ false → position_or_len p (x ∷ xs) ≡ suc (position_or_len p xs)
+pub position_or_len-cons_no : (p : ℕ → Bool) (x : ℕ) (xs : List ℕ) → p x ≡ false → position_or_len p (x ∷ xs) ≡ suc (position_or_len p xs)
 position_or_len-cons_no p x xs other = rw other (omega arith)
 
-position_or_len-cons_yes : (p : ℕ → Bool) (x : ℕ) (xs : List ℕ) → p x ≡ true → position_or_len p (x ∷ xs) ≡ 0
+pub position_or_len-cons_yes : (p : ℕ → Bool) (x : ℕ) (xs : List ℕ) → p x ≡ true → position_or_len p (x ∷ xs) ≡ 0
 position_or_len-cons_yes p x xs sought = rw sought refl
 
 pub before_first-cons_no : (p : ℕ → Bool) (x : ℕ) (xs : List ℕ) → p x ≡ false → before_first p (x ∷ xs) ≡ x ∷ before_first p xs
@@ -44,7 +44,7 @@ past_comment p (x ∷ xs) (suc i) some =
 blank_is_no_hash : (x : ℕ) → is_blank x ≡ true → is_hash x ≡ false
 blank_is_no_hash x blank = grind (arith, nat_tests)
 
-no_blank_from : (x : ℕ) → is_blank x ≡ true → is_no_blank x ≡ false
+pub no_blank_from : (x : ℕ) → is_blank x ≡ true → is_no_blank x ≡ false
 no_blank_from x blank = rw blank refl
 
 -- blanks in front change nothing
@@ -76,6 +76,14 @@ skip_blanks (x ∷ xs) =
       | inl blank ↦
           rw (position_or_len-cons_no is_no_blank x xs (no_blank_from x blank), before_first-cons_no is_hash x xs (blank_is_no_hash x blank))
           (runs_of-blank x (before_first is_hash xs) blank ∙ skip_blanks xs)
+      | inr word ↦ rw (position_or_len-cons_yes is_no_blank x xs (rw word refl)) refl
+    ]
+
+only_blanks_in_front : (xs : List ℕ) → list_all is_blank (take (position_or_len is_no_blank xs) xs) ≡ true
+only_blanks_in_front [] = refl
+only_blanks_in_front (x ∷ xs) =
+    elim (cases_Bool (is_blank x)) [
+      | inl blank ↦ rw (position_or_len-cons_no is_no_blank x xs (no_blank_from x blank), blank) (only_blanks_in_front xs)
       | inr word ↦ rw (position_or_len-cons_yes is_no_blank x xs (rw word refl)) refl
     ]
 
@@ -136,17 +144,17 @@ after_blanks (x ∷ xs) =
     ]
 
 -- parts of a part of the text
-slice-drop : (bytes : List ℕ) (from at to : ℕ) → from ≤ at → drop (at - from) (slice_range bytes from to) ≡ slice_range bytes at to
+pub slice-drop : (bytes : List ℕ) (from at to : ℕ) → from ≤ at → drop (at - from) (slice_range bytes from to) ≡ slice_range bytes at to
 slice-drop bytes from at to after =
     let there : from + (at - from) ≡ at = omega arith in
     ap (λ (ys : List ℕ). drop (at - from) ys) (between_is bytes from to)
     ∙ (drop-drop (at - from) from (take to bytes) ∙ (ap (λ n. drop n (take to bytes)) there ∙ sym (between_is bytes at to)))
 
-slice-take : (bytes : List ℕ) (from at to : ℕ) → at ≤ to → take (at - from) (slice_range bytes from to) ≡ slice_range bytes from at
+pub slice-take : (bytes : List ℕ) (from at to : ℕ) → at ≤ to → take (at - from) (slice_range bytes from to) ≡ slice_range bytes from at
 slice-take bytes from at to before = take-take (at - from) (to - from) (drop from bytes) (omega arith)
 
 -- what is left of a line from a place before the comment on
-left_from : (bytes : List ℕ) (from at to : ℕ) → from ≤ at → at ≤ to → list_any is_hash (slice_range bytes from at) ≡ false → drop (at - from) (before_first is_hash (slice_range bytes from to)) ≡ before_first is_hash (slice_range bytes at to)
+pub left_from : (bytes : List ℕ) (from at to : ℕ) → from ≤ at → at ≤ to → list_any is_hash (slice_range bytes from at) ≡ false → drop (at - from) (before_first is_hash (slice_range bytes from to)) ≡ before_first is_hash (slice_range bytes at to)
 left_from bytes from at to after before absent =
     before_comment-drop is_hash (slice_range bytes from to) (at - from) (rw (slice-take bytes from at to before) absent)
     ∙ ap (λ (ys : List ℕ). before_first is_hash ys) (slice-drop bytes from at to after)
@@ -160,6 +168,12 @@ behind_blanks : (bytes : List ℕ) (at to n : ℕ) → n ≡ position_or_len is_
 behind_blanks bytes at to n skipped =
     let there : (at + n) - at ≡ n = omega arith in
     ap (λ k. drop k (slice_range bytes at to)) (sym there) ∙ slice-drop bytes at (at + n) to (omega arith)
+
+pub blanks_lead : (bytes : List ℕ) (at to n : ℕ) → n ≡ position_or_len is_no_blank (slice_range bytes at to) → at + n ≤ to → list_all is_blank (slice_range bytes at (at + n)) ≡ true
+blanks_lead bytes at to n skipped fits =
+    let there : at + n - at ≡ n = omega arith in
+    let same : take n (slice_range bytes at to) ≡ slice_range bytes at (at + n) = ap (λ k. take k (slice_range bytes at to)) (sym there) ∙ slice-take bytes at (at + n) to fits in
+    ap (λ (ys : List ℕ). list_all is_blank ys) (sym same ∙ ap (λ k. take k (slice_range bytes at to)) skipped) ∙ only_blanks_in_front (slice_range bytes at to)
 
 runs_behind_blanks : (bytes : List ℕ) (at to n : ℕ) → n ≡ position_or_len is_no_blank (slice_range bytes at to) → runs_of (before_first is_hash (slice_range bytes at to)) ≡ runs_of (before_first is_hash (slice_range bytes (at + n) to))
 runs_behind_blanks bytes at to n skipped =

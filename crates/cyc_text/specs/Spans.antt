@@ -1,8 +1,8 @@
 -- What a span of a text stands for.
-use Rattle.std.specs.Prelude.{◌≡◌, ◌≢◌, ◌≤◌, ◌<◌, ◌-◌, ◌⊎◌, ℕ, List, [], ◌∷◌, length, drop, false, slice_index, slice_range}
-use Rattle.std.specs.List.{list_any}
+use Rattle.std.specs.Prelude.{◌≡◌, ◌≢◌, ◌≤◌, ◌<◌, ◌-◌, ◌⊎◌, ℕ, List, [], ◌∷◌, length, drop, true, false, slice_index, slice_range}
+use Rattle.std.specs.List.{list_all, list_any}
 use Rattle.std.specs.Str.Lines.{lines}
-use Rattle.cyc_text.specs.Words.{is_newline, words_left, words_of}
+use Rattle.cyc_text.specs.Words.{is_newline, is_blank, words_left, words_of}
 use Rattle.cyc_text.specs.declared.spans.LineSpan.{LineSpan}
 use Rattle.cyc_text.specs.declared.spans.WordSpan.{WordSpan}
 
@@ -40,8 +40,15 @@ pub record IsFirstLine (bytes : List ℕ) (at : ℕ) (line : LineSpan) : Type 0 
 -- the span is the first word of the line from `at` on
 pub record IsFirstWord (bytes : List ℕ) (line : LineSpan) (at : ℕ) (word : WordSpan) : Type 0 where
   pub starts : at ≤ word.from
+  -- nothing but blanks stands in front of it
+  pub lead : list_all is_blank (slice_range bytes at word.from) ≡ true
   pub some : word.from < word.to
   pub within : word.to ≤ line.to
   pub cut : words_left bytes line at ≡ slice_range bytes word.from word.to ∷ words_left bytes line word.to
   -- so a reader may go on with the rest of the line as its line, and looks at no byte twice
   pub further : words_left bytes line word.to ≡ words_of (slice_range bytes word.to line.to)
+
+-- at most one span is the first word of a line from a place on
+abbrev pub FirstWordsAreUnique : Type 0
+FirstWordsAreUnique = (bytes : List ℕ) (line : LineSpan) (at : ℕ) (word other : WordSpan) → line.to ≤ length bytes → line.from ≤ at
+    → IsFirstWord bytes line at word → IsFirstWord bytes line at other → word ≡ other

@@ -1,4 +1,5 @@
 // What the definitions of lines and words mean for whoever writes a text.
+ghost use Rattle.cyc_text.specs.Spans.{FirstWordsAreUnique};
 ghost use Rattle.cyc_text.specs.ReadBack.{WordsArePlain, WordsReadBack, LinesReadBack};
 
 /// Each word of a line has a byte, and neither a space, a tab nor a `#`.
@@ -14,4 +15,9 @@ pub fn words_are_read_back()
 /// Lines that are written with a line feed behind each are the lines of that text.
 pub fn lines_are_read_back()
     ensures { LinesReadBack }
+{}
+
+/// At most one span is the first word of a line from a place on.
+pub fn first_words_are_unique()
+    ensures { FirstWordsAreUnique }
 {}

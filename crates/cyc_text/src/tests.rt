@@ -12,8 +12,22 @@ fn cuts_lines(rt: HostRuntime) -> Result<(), Fail> {
         at = line.next;
     }
     assert_eq!(rt; next_line(text, 12), None);
-    assert_eq!(rt; next_line(b"", 0), None);
     Ok(())
+}
+
+#[test]
+fn cuts_single_lines(rt: HostRuntime) {
+    for (text, at, line) in [
+        (b"".as_slice(), 0, None),
+        (b"a\n".as_slice(), 0, Some((0, 1, 2))),
+        (b"a\n".as_slice(), 2, None),
+        (b"\r".as_slice(), 0, Some((0, 1, 1))),
+        (b"\r\n".as_slice(), 0, Some((0, 0, 2))),
+        (b"\r\n".as_slice(), 1, Some((1, 1, 2))),
+    ] {
+        let line = line.map(|(from, to, next)| LineSpan { from, to, next });
+        assert_eq!(rt; next_line(text, at), line, "{text:?} from {at}");
+    }
 }
 
 #[test]
@@ -30,6 +44,34 @@ fn cuts_words(rt: HostRuntime) {
     }
     for at in [11, 13, 15, 17] {
         assert_eq!(rt; next_word(text, line, at), None, "from {at}");
+    }
+}
+
+#[test]
+fn cuts_words_before_comments(rt: HostRuntime) {
+    for text in [b"a#a".as_slice(), b"b #b".as_slice(), b"a\t#".as_slice()] {
+        let line = LineSpan {
+            from: 0,
+            to: text.len(),
+            next: text.len(),
+        };
+        let word = next_word(text, line, 0);
+        assert_eq!(rt; word, Some(WordSpan { from: 0, to: 1 }), "{text:?}");
+    }
+}
+
+#[test]
+fn ends_words(rt: HostRuntime) {
+    let line = LineSpan {
+        from: 0,
+        to: 3,
+        next: 3,
+    };
+    for byte in 0..=u8::MAX {
+        let text = [b'a', byte, b'c'];
+        let to = if b"\t #".contains(&byte) { 1 } else { 3 };
+        let word = next_word(&text, line, 0);
+        assert_eq!(rt; word, Some(WordSpan { from: 0, to }), "{byte}");
     }
 }
 
@@ -52,6 +94,11 @@ fn reads_numbers(rt: HostRuntime) {
     ] {
         assert_eq!(rt; read_number(word), value, "{word:?}");
     }
+    for byte in 0..=u8::MAX {
+        let value = b"0123456789".iter().position(|digit| *digit == byte);
+        let read = read_number(&[b'1', byte]);
+        assert_eq!(rt; read, value.map(|digit| 10 + digit as u64), "{byte}");
+    }
 }
 
 #[test]
@@ -68,6 +115,10 @@ fn tells_names(rt: HostRuntime) {
         (b"\xc3\xa9".as_slice(), false),
     ] {
         assert_eq!(rt; is_name(bytes), name, "{bytes:?}");
+    }
+    let all = b"abcdefghijklmnopqrstuvwxyzABCDEFGHIJKLMNOPQRSTUVWXYZ0123456789_.[]/".as_slice();
+    for byte in 0..=u8::MAX {
+        assert_eq!(rt; is_name(&[byte]), all.contains(&byte), "{byte}");
     }
 }
 

@@ -1,5 +1,5 @@
 use Rattle.std.proofs.Common.{arith, sym, ◌∙◌}
-use Rattle.cyc_text.proofs.WordLemmas.{none_past_comment, none_left, first_left, left_behind_word}
+use Rattle.cyc_text.proofs.WordLemmas.{none_past_comment, none_left, blanks_lead, first_left, left_behind_word}
 use Rattle.cyc_text.proofs.spans.next_word.Goals as goal
 
 pub returns-then-has_comment : goal.returns-then-has_comment
@@ -14,6 +14,7 @@ returns-then-len-eq0 c =
 pub returns : goal.returns
 returns c = record {
   starts = omega arith;
+  lead = blanks_lead c.args.bytes.now c.args.at c.args.line.to c.blank_len.result c.blank_len.ensures.first (omega arith);
   some = omega arith;
   within = omega arith;
   cut =
