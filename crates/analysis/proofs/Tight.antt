@@ -3,11 +3,10 @@ use Rattle.std.proofs.Common.{◌≡◌, ℕ, ◌+◌, ◌<◌, ◌≤◌, ◌�
 use Rattle.std.proofs.lemmas.Bool.{cases_lt}
 use Rattle.std.proofs.lemmas.List.{get_or_append_left}
 use Rattle.std.proofs.Math.Seq.{get_or-append_seam}
-use Rattle.first_cycle.specs.Levels.{kept_by}
 use Rattle.rule_system.specs.declared.rules.Rule.{Rule}
 use Rattle.rule_system.specs.Rules.{source_of, target_of}
 use Rattle.rule_system.specs.Walks.{IsWalk, IsCycle, IsKept}
-use Rattle.rule_system.specs.FirstCycle.{IsFirstCycle}
+use Rattle.rule_system.specs.FirstCycle.{IsFirstCycle, kept_by}
 
 -- two tests agree at each rule
 pub record Agree (rules : List Rule) (p q : ℕ → Bool) : Type 0 where

@@ -1,7 +1,7 @@
 ghost use Rattle.std.specs.Prelude.{◌≡◌, ◌<◌, ◌≤◌, ◌+ℤ◌, ℕ, All, IfOk, length};
 ghost use Rattle.std.specs.Ordering.{int_eq};
 ghost use Rattle.cyc_num.specs.Within.{LiesWithin};
-ghost use Rattle.first_cycle.specs.Levels.{kept_by};
+ghost use Rattle.rule_system.specs.FirstCycle.{kept_by};
 ghost use Rattle.rule_system.specs.Bounds.{IsRule};
 ghost use Rattle.rule_system.specs.CriticalCycle.{IsCriticalCycle};
 ghost use Rattle.rule_system.specs.Walks.{EndsBelow};

@@ -5,7 +5,7 @@ use Rattle.cell_arcs.specs.declared.faults.LibraryFault.TheVariants.{Memory}
 
 infixl 10 ◌>>=◌
 -- the value of the one, handed to the other, unless the one is refused
-abbrev pub ◌>>=◌ : {A B : Type 0} → Result A LibraryFault → (A → Result B LibraryFault) → Result B LibraryFault
+abbrev pub ◌>>=◌ : {A B E : Type 0} → Result A E → (A → Result B E) → Result B E
 Ok x >>= f = f x
 Err e >>= f = Err e
 
@@ -15,7 +15,7 @@ abbrev pub ◌>>?◌ : {A B : Type 0} → Option A → (A → Option B) → Opti
 o >>? f = option_and_then f o
 
 -- the value, or this fault where there is none
-abbrev pub or_fault : {A : Type 0} → LibraryFault → Option A → Result A LibraryFault
+abbrev pub or_fault : {A E : Type 0} → E → Option A → Result A E
 or_fault e None = Err e
 or_fault e (Some x) = Ok x
 
@@ -25,7 +25,7 @@ or_else None o = o
 or_else (Some x) o = Some x
 
 -- the fault where there is one
-abbrev pub unless_fault : {A : Type 0} → Option LibraryFault → Result A LibraryFault → Result A LibraryFault
+abbrev pub unless_fault : {A E : Type 0} → Option E → Result A E → Result A E
 unless_fault None r = r
 unless_fault (Some e) r = Err e
 

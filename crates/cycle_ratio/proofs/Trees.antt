@@ -15,7 +15,8 @@ use Rattle.rule_system.proofs.Sums.{walk_sums, ends_below}
 use Rattle.rule_system.proofs.Paths.{PartedAt, Misses, part_at, path_cons, path_short, empty_path}
 use Rattle.rule_system.proofs.Erase.{close, kept_path}
 use Rattle.cycle_ratio.specs.Cycles.{IsShortCycle}
-use Rattle.cycle_ratio.specs.Trees.{number_of, parent_of, is_parent, is_chosen, is_raising, raised, adopted, IsTree, AreAtMost}
+use Rattle.first_cycle.specs.Numbers.{number_of}
+use Rattle.cycle_ratio.specs.Trees.{parent_of, is_parent, is_chosen, is_raising, raised, adopted, IsTree, AreAtMost}
 
 -- ---- parents
 

@@ -4,9 +4,7 @@ use Rattle.rule_system.specs.declared.rules.Rule.{Rule}
 use Rattle.rule_system.specs.Rules.{rule_at, source_of, target_of}
 use Rattle.rule_system.specs.Walks.{IsCycle, IsKept}
 use Rattle.rule_system.specs.Weights.{Gains}
-
-abbrev pub number_of : List ℕ → ℕ → ℕ
-number_of numbers event = get_or numbers event 0
+use Rattle.first_cycle.specs.Numbers.{number_of}
 
 abbrev pub parent_of : List (Option ℕ) → ℕ → Option ℕ
 parent_of parents event = get_or parents event None

@@ -2,7 +2,7 @@ ghost use Rattle.std.specs.Prelude.{◌≡◌, ◌<◌, ◌≤◌, ◌==◌, ℕ
 ghost use Rattle.rule_system.specs.Bounds.{IsRule};
 ghost use Rattle.rule_system.specs.Rules.{target_of};
 ghost use Rattle.rule_system.specs.Weights.{HasNoGain, Gains};
-ghost use Rattle.first_cycle.specs.Levels.{kept_by};
+ghost use Rattle.rule_system.specs.FirstCycle.{kept_by};
 ghost use Rattle.cycle_ratio.specs.Cycles.{IsShortCycle};
 ghost use Rattle.cycle_ratio.specs.Trees.{AreAtMost, IsTree, adopted, is_chosen, is_parent, is_raising, raised};
 

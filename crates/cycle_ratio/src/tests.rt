@@ -2,7 +2,7 @@ ghost use Rattle.std.specs.Prelude.{◌≡◌, ◌<◌, ◌≤◌, ℕ, true, If
 ghost use Rattle.rule_system.specs.Bounds.{IsSystem};
 ghost use Rattle.rule_system.specs.Rules.{rule_at};
 ghost use Rattle.rule_system.specs.Walks.{IsLive};
-ghost use Rattle.first_cycle.specs.Levels.{kept_by};
+ghost use Rattle.rule_system.specs.FirstCycle.{kept_by};
 ghost use Rattle.cycle_ratio.specs.Cycles.{HasCycle};
 
 use crate::greatest;

@@ -5,7 +5,8 @@ use Rattle.std.proofs.lemmas.Option.{same_Some, none-some, slice_get_within, get
 use Rattle.cell_arcs.specs.declared.cells.Cell.{Cell}
 use Rattle.cell_arcs.specs.declared.cells.CellArc.{CellArc}
 use Rattle.cell_arcs.specs.IsLibrary.{IsArc, IsCell}
-use Rattle.netlist_model.specs.Circuit.{last_of, or_else}
+use Rattle.cell_arcs.specs.Steps.{or_else}
+use Rattle.netlist_model.specs.Circuit.{last_of}
 use Rattle.netlist_model.specs.Expansion.{rules_of_arc, rules_of_arcs, delay_of}
 use Rattle.netlist_model.specs.Sound.{FitsCell, IsInstance, IsPin}
 use Rattle.netlist_model.specs.declared.parts.Delay.{Delay}

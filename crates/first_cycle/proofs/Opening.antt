@@ -3,9 +3,9 @@ use Rattle.std.proofs.Common.{◌≡◌, ℕ, ◌<◌, ◌≤◌, Bool, true, fa
 use Rattle.std.proofs.lemmas.Bool.Decides.{nat_tests}
 use Rattle.rule_system.specs.declared.rules.Rule.{Rule}
 use Rattle.rule_system.specs.Rules.{source_of, target_of}
-use Rattle.rule_system.specs.FirstCycle.{start_of}
+use Rattle.rule_system.specs.FirstCycle.{start_of, kept_by}
 use Rattle.rule_system.specs.Walks.{IsWalk, IsCycle, IsKept, EndsBelow}
-use Rattle.first_cycle.specs.Levels.{kept_by, IsKeptWalk, level_of, level_through, AreLevels, IsFirstLeast}
+use Rattle.first_cycle.specs.Levels.{IsKeptWalk, level_of, level_through, AreLevels, IsFirstLeast}
 
 -- through a kept rule from the event it takes as many rules as from the rule's target
 through_kept : (rs : List Rule) (keep : List Bool) (levels : List ℕ) (event n : ℕ) → source_of rs n ≡ event → kept_by keep n ≡ true → level_through rs keep levels event n ≡ level_of levels (target_of rs n)

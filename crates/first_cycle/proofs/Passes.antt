@@ -9,7 +9,8 @@ use Rattle.rule_system.specs.Rules.{rule_at, source_of, target_of}
 use Rattle.rule_system.specs.Walks.{EndsBelow, KeptPath}
 use Rattle.rule_system.proofs.Erase.{kept_path}
 use Rattle.rule_system.proofs.Paths.{path_short}
-use Rattle.first_cycle.specs.Levels.{kept_by, IsKeptWalk, level_of, AreReached, AreSettled, AreFound, AreLevels, lowered}
+use Rattle.rule_system.specs.FirstCycle.{kept_by}
+use Rattle.first_cycle.specs.Levels.{IsKeptWalk, level_of, AreReached, AreSettled, AreFound, AreLevels, lowered}
 
 -- what stands after the first rules of a pass
 pub record IsPass (rs : List Rule) (keep : List Bool) (end count : ℕ) (before now : List ℕ) (changed : Bool) : Type 0 where

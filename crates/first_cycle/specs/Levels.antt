@@ -2,12 +2,8 @@
 use Rattle.std.specs.Prelude.{◌≡◌, ℕ, ◌+◌, ◌<◌, ◌≤◌, ◌⊎◌, ◌==◌, ◌&&◌, Bool, true, false, List, length, get_or, nat_lt, slice_set, if◌then◌else◌}
 use Rattle.rule_system.specs.declared.rules.Rule.{Rule}
 use Rattle.rule_system.specs.Rules.{source_of, target_of}
-use Rattle.rule_system.specs.Walks.{IsWalk, IsCycle, IsKept}
-use Rattle.rule_system.specs.FirstCycle.{IsListBefore, IsCycleBefore, start_of}
-
--- whether the flags keep a rule
-abbrev pub kept_by : List Bool → ℕ → Bool
-kept_by keep n = get_or keep n false
+use Rattle.rule_system.specs.Walks.{IsWalk, IsKept}
+use Rattle.rule_system.specs.FirstCycle.{IsListBefore, kept_by}
 
 -- a walk of kept rules
 abbrev pub IsKeptWalk : List Rule → List Bool → ℕ → List ℕ → ℕ → Type 0
@@ -75,10 +71,3 @@ level_through rules keep levels event number =
 -- the first place of the least value among the first so many
 abbrev pub IsFirstLeast : (ℕ → ℕ) → ℕ → ℕ → Type 0
 IsFirstLeast f count best = (best < count) × ((n : ℕ) → n < count → (f best < f n) ⊎ ((f best ≡ f n) × (best ≤ n)))
-
--- the first of the kept cycles that start at the event
-pub record IsFirstFrom (rules : List Rule) (keep : List Bool) (event : ℕ) (cycle : List ℕ) : Type 0 where
-  pub is_cycle : IsCycle rules cycle
-  pub is_kept : IsKept (kept_by keep) cycle
-  pub starts : start_of rules cycle ≡ event
-  pub first : (other : List ℕ) → IsCycle rules other → IsKept (kept_by keep) other → start_of rules other ≡ event → IsCycleBefore rules cycle other

@@ -2,7 +2,7 @@
 use Rattle.std.specs.Prelude.{◌≡◌, ℕ, ◌<◌, ◌≤◌, Bool, true, List, length, get_or}
 use Rattle.rule_system.specs.declared.rules.Rule.{Rule}
 use Rattle.rule_system.specs.Rules.{source_of, target_of}
-use Rattle.first_cycle.specs.Levels.{kept_by}
+use Rattle.rule_system.specs.FirstCycle.{kept_by}
 
 abbrev pub number_of : List ℕ → ℕ → ℕ
 number_of numbers event = get_or numbers event 0

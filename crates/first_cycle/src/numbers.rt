@@ -1,5 +1,5 @@
 ghost use Rattle.std.specs.Prelude.{◌≡◌, ◌<◌, ℕ, IfOk, Bool, true, false, length};
-ghost use Rattle.first_cycle.specs.Levels.{kept_by};
+ghost use Rattle.rule_system.specs.FirstCycle.{kept_by};
 ghost use Rattle.first_cycle.specs.Numbers.{AreUnraised, StaysOnNumber};
 ghost use Rattle.rule_system.specs.Walks.{EndsBelow};
 

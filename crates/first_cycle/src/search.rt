@@ -1,7 +1,8 @@
 ghost use Rattle.std.specs.Prelude.{◌≡◌, ◌<◌, ◌≤◌, ℕ, IfOk, IsTrue, Bool, true, false, length, sum, ◌+◌, nat_lt, IfSome, IfNone, ◌↔◌, List};
-ghost use Rattle.first_cycle.specs.Levels.{IsFirstFrom, IsFirstLeast, kept_by, level_through};
+ghost use Rattle.rule_system.specs.Plain.{IsFirstFrom};
+ghost use Rattle.first_cycle.specs.Levels.{IsFirstLeast, level_through};
 ghost use Rattle.first_cycle.specs.Numbers.{AreUnraised};
-ghost use Rattle.rule_system.specs.FirstCycle.{IsFirstCycle, start_of};
+ghost use Rattle.rule_system.specs.FirstCycle.{IsFirstCycle, start_of, kept_by};
 ghost use Rattle.rule_system.specs.Walks.{EndsBelow, IsCycle, IsKept};
 
 use crate::levels::levels_to;
@@ -45,7 +46,7 @@ fn first_from(
     requires count { length numbers.now ≡ system.now.events }
     requires unraised { AreUnraised system.now.rules keep.now numbers.now }
     requires start { start < system.now.events }
-    ensures some { IfOk result (λ found. IfSome found (λ cycle. IsFirstFrom system.now.rules keep.now start cycle.items)) }
+    ensures some { IfOk result (λ found. IfSome found (λ cycle. IsFirstFrom system.now.rules (kept_by keep.now) start cycle.items)) }
     ensures none { IfOk result (λ found. IfNone found ((cycle : List ℕ) → IsCycle system.now.rules cycle → IsKept (kept_by keep.now) cycle → start_of system.now.rules cycle ≡ start → ⊥)) }
     ensures ends { EndsBelow system.now.events system.now.rules }
 {

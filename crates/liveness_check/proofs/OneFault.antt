@@ -3,11 +3,11 @@ use Rattle.std.proofs.Common.{◌≡◌, ◌≢◌, ℕ, ◌<◌, ◌≤◌, Lis
 use Rattle.std.proofs.lemmas.Bool.{cases_lt}
 use Rattle.rule_system.specs.declared.rules.Rule.{Rule}
 use Rattle.rule_system.specs.Rules.{offset_sum}
-use Rattle.rule_system.specs.Walks.{IsConnected, IsKept, IsLive, Reaches}
+use Rattle.rule_system.specs.Walks.{IsConnected, IsKept, IsLive, Reaches, has_no_offset}
 use Rattle.rule_system.specs.FirstCycle.{IsFirstCycle}
 use Rattle.liveness_check.specs.declared.faults.LiveFault.{LiveFault}
 use Rattle.liveness_check.specs.declared.faults.LiveFault.TheVariants.{Unreached, NoReturn, Dead, Memory}
-use Rattle.liveness_check.specs.Liveness.{IsFault, without_offset}
+use Rattle.liveness_check.specs.Liveness.{IsFault}
 
 -- two events of which a property does not hold, but of all below them, are one
 same_event : (P : ℕ → Type 0) (event other : ℕ) → (P event → ⊥) → ((n : ℕ) → n < event → P n) → (P other → ⊥) → ((n : ℕ) → n < other → P n) → event ≡ other
@@ -20,7 +20,7 @@ same_event P event other d below d' below' = go (cases_lt event other) (cases_lt
 
 -- of the cycles of rules of offset 0 one is the first
 pub record IsOneFirst (rules : List Rule) : Type 0 where
-  pub same : (cycle other : List ℕ) → IsFirstCycle rules (without_offset rules) cycle → IsFirstCycle rules (without_offset rules) other → cycle ≡ other
+  pub same : (cycle other : List ℕ) → IsFirstCycle rules (has_no_offset rules) cycle → IsFirstCycle rules (has_no_offset rules) other → cycle ≡ other
 
 pub same_fault : (events : ℕ) (rs : List Rule) (root : ℕ) (fault other : LiveFault) → IsOneFirst rs → IsFault events rs root fault → IsFault events rs root other → fault ≢ Memory → other ≢ Memory → fault ≡ other
 same_fault events rs root (Unreached e) (Unreached e') one h k m n = ap Unreached (same_event (Reaches rs root) e e' h.unreached h.least k.unreached k.least)
@@ -39,7 +39,7 @@ same_fault events rs root Memory other one h k m n = absurd (m refl)
 
 -- a cycle of rules of offset 0 has none
 pub record DeadHaveNone (rules : List Rule) : Type 0 where
-  pub none : (cycle : List ℕ) → IsKept (without_offset rules) cycle → offset_sum rules cycle ≡ 0
+  pub none : (cycle : List ℕ) → IsKept (has_no_offset rules) cycle → offset_sum rules cycle ≡ 0
 
 pub no_fault : (events : ℕ) (rs : List Rule) (root : ℕ) (fault : LiveFault) → DeadHaveNone rs → IsConnected events rs root → IsLive rs → IsFault events rs root fault → fault ≡ Memory
 no_fault events rs root (Unreached e) dead connected live f = absurd (f.unreached (connected e f.is_event).0)

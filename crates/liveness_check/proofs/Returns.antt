@@ -4,7 +4,8 @@ use Rattle.std.proofs.lemmas.List.{get_or-replicate}
 use Rattle.rule_system.specs.declared.rules.Rule.{Rule}
 use Rattle.rule_system.specs.Rules.{target_of}
 use Rattle.rule_system.specs.Walks.{IsWalk, IsKept, Reaches}
-use Rattle.first_cycle.specs.Levels.{AreLevels, kept_by, level_of, IsKeptWalk}
+use Rattle.rule_system.specs.FirstCycle.{kept_by}
+use Rattle.first_cycle.specs.Levels.{AreLevels, level_of, IsKeptWalk}
 use Rattle.liveness_check.specs.Liveness.{IsFirstLost, IsLeastWithoutReturn}
 
 all_kept : (rs : List Rule) (a : ℕ) (w : List ℕ) (b : ℕ) → IsWalk rs a w b → IsKept (kept_by (replicate (length rs) true)) w

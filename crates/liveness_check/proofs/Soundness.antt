@@ -2,7 +2,7 @@
 use Rattle.std.proofs.Common.{◌≡◌, ◌≢◌, ℕ, zero, suc, ◌<◌, ◌≤◌, Bool, List, length, ◌⊎◌, inl, inr, subst, arith}
 use Rattle.std.proofs.lemmas.Bool.{cases_lt}
 use Rattle.rule_system.specs.declared.rules.Rule.{Rule}
-use Rattle.rule_system.specs.Walks.{IsWalk, IsCycle, IsKept, IsConnected, IsLive, EndsBelow, Reaches}
+use Rattle.rule_system.specs.Walks.{IsWalk, IsCycle, IsKept, IsConnected, IsLive, EndsBelow, Reaches, has_no_offset}
 use Rattle.rule_system.specs.FirstCycle.{IsFirstCycle}
 use Rattle.rule_system.specs.Weights.{ShortWalkAtLeast}
 use Rattle.rule_system.proofs.FirstExists.{IsKeptCycle, ShortBefore, shorten}
@@ -10,7 +10,7 @@ use Rattle.rule_system.proofs.Search.{IsAmong, BestOrNone, Tested, search_best, 
 use Rattle.rule_system.proofs.WalkTests.{walk_tested, walk_numbers, cycle_tested, kept_tested}
 use Rattle.liveness_check.specs.declared.faults.LiveFault.{LiveFault}
 use Rattle.liveness_check.specs.declared.faults.LiveFault.TheVariants.{Unreached, NoReturn, Dead, Memory}
-use Rattle.liveness_check.specs.Liveness.{IsFault, without_offset}
+use Rattle.liveness_check.specs.Liveness.{IsFault}
 
 -- whether there is a list that passes, where each list that passes has one among the short lists of small numbers
 some_or_none : (m n : ℕ) (P : List ℕ → Type 0) → Tested P → ((w : List ℕ) → P w → (v : List ℕ) × IsAmong m n v × P v) → ((w : List ℕ) × P w) ⊎ ((w : List ℕ) → P w → ⊥)
@@ -23,8 +23,8 @@ some_or_none m n P test short = go (search_best m n (λ v w. Unit {0}) P (record
 -- what the laws of walks say of a system
 pub record HasWalkLaws (events : ℕ) (rules : List Rule) : Type 0 where
   pub short : (a : ℕ) (walk : List ℕ) (b : ℕ) → a < events → IsWalk rules a walk b → ShortWalkAtLeast 0 0 events rules a walk b
-  pub first : (cycle : List ℕ) → IsCycle rules cycle → IsKept (without_offset rules) cycle → (first : List ℕ) × IsFirstCycle rules (without_offset rules) first
-  pub live : ((cycle : List ℕ) → IsCycle rules cycle → IsKept (without_offset rules) cycle → ⊥) → IsLive rules
+  pub first : (cycle : List ℕ) → IsCycle rules cycle → IsKept (has_no_offset rules) cycle → (first : List ℕ) × IsFirstCycle rules (has_no_offset rules) first
+  pub live : ((cycle : List ℕ) → IsCycle rules cycle → IsKept (has_no_offset rules) cycle → ⊥) → IsLive rules
 
 -- whether a walk leads from the one event to the other
 reaches_or_not : (events : ℕ) (rs : List Rule) (a b : ℕ) → HasWalkLaws events rs → a < events → Reaches rs a b ⊎ (Reaches rs a b → ⊥)
@@ -75,12 +75,12 @@ IsSoundOrAtFault events rs root = (IsConnected events rs root × IsLive rs) ⊎ 
 pub sound_or_at_fault : (events : ℕ) (rs : List Rule) (root : ℕ) → HasWalkLaws events rs → EndsBelow events rs → root < events → IsSoundOrAtFault events rs root
 sound_or_at_fault events rs root laws ends inside = reached (all_or_least (λ n. Reaches rs root n) events (λ n h. reaches_or_not events rs root n laws inside))
   where
-    dead : IsConnected events rs root → ((w : List ℕ) × IsKeptCycle rs (without_offset rs) w) ⊎ ((w : List ℕ) → IsKeptCycle rs (without_offset rs) w → ⊥) → IsSoundOrAtFault events rs root
-    dead connected (inl w) = let f : (first : List ℕ) × IsFirstCycle rs (without_offset rs) first = laws.first w.0 w.1.0 w.1.1 in inr (Dead f.0, (connected, f.1), λ e. cc)
+    dead : IsConnected events rs root → ((w : List ℕ) × IsKeptCycle rs (has_no_offset rs) w) ⊎ ((w : List ℕ) → IsKeptCycle rs (has_no_offset rs) w → ⊥) → IsSoundOrAtFault events rs root
+    dead connected (inl w) = let f : (first : List ℕ) × IsFirstCycle rs (has_no_offset rs) first = laws.first w.0 w.1.0 w.1.1 in inr (Dead f.0, (connected, f.1), λ e. cc)
     dead connected (inr none) = inl (connected, laws.live (λ cycle c k. none cycle (c, k)))
 
     returned : ((n : ℕ) → n < events → Reaches rs root n) → ((n : ℕ) → n < events → Reaches rs n root) ⊎ LeastWithout (λ n. Reaches rs n root) events → IsSoundOrAtFault events rs root
-    returned to (inl back) = dead (λ n h. (to n h, back n h)) (kept_cycle_or_none events rs (without_offset rs) ends)
+    returned to (inl back) = dead (λ n h. (to n h, back n h)) (kept_cycle_or_none events rs (has_no_offset rs) ends)
     returned to (inr l) = inr (NoReturn l.number, (to, record { is_event = l.inside; without_return = l.without; least = l.least }), λ e. cc)
 
     reached : ((n : ℕ) → n < events → Reaches rs root n) ⊎ LeastWithout (λ n. Reaches rs root n) events → IsSoundOrAtFault events rs root

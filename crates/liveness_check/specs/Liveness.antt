@@ -1,8 +1,7 @@
 -- The faults of a system that is not connected from its root, or not live.
-use Rattle.std.specs.Prelude.{ℕ, ◌<◌, ◌≤◌, ◌==◌, Bool, List}
+use Rattle.std.specs.Prelude.{ℕ, ◌<◌, ◌≤◌, List}
 use Rattle.rule_system.specs.declared.rules.Rule.{Rule}
-use Rattle.rule_system.specs.Rules.{rule_at}
-use Rattle.rule_system.specs.Walks.{Reaches, IsConnected}
+use Rattle.rule_system.specs.Walks.{Reaches, IsConnected, has_no_offset}
 use Rattle.rule_system.specs.FirstCycle.{IsFirstCycle}
 use Rattle.first_cycle.specs.Levels.{level_of}
 use Rattle.liveness_check.specs.declared.faults.LiveFault.{LiveFault}
@@ -20,15 +19,11 @@ pub record IsLeastWithoutReturn (events : ℕ) (rules : List Rule) (root event :
   pub without_return : Reaches rules event root → ⊥
   pub least : (other : ℕ) → other < event → Reaches rules other root
 
--- a rule of offset 0
-abbrev pub without_offset : List Rule → ℕ → Bool
-without_offset rules n = (rule_at rules n).offset == 0
-
 -- the first fault of the system, each under the condition that those before it do not hold
 abbrev pub IsFault : ℕ → List Rule → ℕ → LiveFault → Type 0
 IsFault events rules root (Unreached event) = IsLeastUnreached events rules root event
 IsFault events rules root (NoReturn event) = ((other : ℕ) → other < events → Reaches rules root other) × IsLeastWithoutReturn events rules root event
-IsFault events rules root (Dead cycle) = IsConnected events rules root × IsFirstCycle rules (without_offset rules) cycle
+IsFault events rules root (Dead cycle) = IsConnected events rules root × IsFirstCycle rules (has_no_offset rules) cycle
 IsFault events rules root Memory = Unit {0}
 
 -- the first event whose level is the number of events

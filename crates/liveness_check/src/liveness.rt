@@ -1,8 +1,8 @@
 ghost use Rattle.std.specs.Prelude.{◌≡◌, ◌<◌, ◌==◌, ℕ, IfOk, IfErr, IfSome, IfNone, length, map, replicate, true};
 ghost use Rattle.first_cycle.specs.Levels.{level_of};
-ghost use Rattle.liveness_check.specs.Liveness.{IsFault, IsFirstLost, IsLeastUnreached, IsLeastWithoutReturn, without_offset};
+ghost use Rattle.liveness_check.specs.Liveness.{IsFault, IsFirstLost, IsLeastUnreached, IsLeastWithoutReturn};
 ghost use Rattle.rule_system.specs.FirstCycle.{IsFirstCycle};
-ghost use Rattle.rule_system.specs.Walks.{IsConnected, IsLive, Reaches};
+ghost use Rattle.rule_system.specs.Walks.{IsConnected, IsLive, Reaches, has_no_offset};
 
 use crate::faults::LiveFault;
 use crate::reversed::reversed;
@@ -78,7 +78,7 @@ fn all_flags(alloc: Global, rules: &[Rule]) -> Result<Vec<bool>, AllocError>
 
 /// The first cycle of rules of offset 0.
 fn dead_cycle(alloc: Global, system: &System) -> Result<Option<Cycle>, AllocError>
-    ensures some { IfOk result (λ found. IfSome found (λ cycle. IsFirstCycle system.now.rules (without_offset system.now.rules) cycle)) }
+    ensures some { IfOk result (λ found. IfSome found (λ cycle. IsFirstCycle system.now.rules (has_no_offset system.now.rules) cycle)) }
     ensures none { IfOk result (λ found. IfNone found (IsLive system.now.rules)) }
 {
     let keep = offset_flags(alloc, system.rules())?;

@@ -3,7 +3,8 @@ use Rattle.std.proofs.Common.{◌≡◌, ℕ, List, [], ◌∷◌, ◌++◌, fil
 use Rattle.std.specs.List.{list_any}
 use Rattle.std.proofs.lemmas.Bool.Decides.{nat_tests}
 use Rattle.netlist_model.specs.Blocks.{pair_eq, TellsCounts}
-use Rattle.netlist_model.specs.Circuit.{or_else, is_between, tick_of}
+use Rattle.cell_arcs.specs.Steps.{or_else}
+use Rattle.netlist_model.specs.Circuit.{is_between, tick_of}
 use Rattle.netlist_model.specs.declared.parts.Tick.{Tick}
 use Rattle.netlist_model.proofs.BlockLemmas.{same_test, between_other, pairs_apart, filtered_out}
 use Rattle.netlist_model.proofs.Soundness.{find_any}

@@ -2,7 +2,8 @@
 use Rattle.std.proofs.Common.{◌≡◌, ℕ, ◌+◌, ◌-◌, ◌<◌, ◌≤◌, List, [], ◌∷◌, ◌++◌, length, map, get_or, drop, suc, zero, Bool, true, false, Option, Some, None, option_map, is_none, position, refl, sym, ap, ◌∙◌, arith, if◌then◌else◌, drop-cons, length-append}
 use Rattle.std.proofs.lemmas.List.{get_or-map, length-map}
 use Rattle.std.proofs.Math.ListN.{drop_of_length-le}
-use Rattle.netlist_model.specs.Circuit.{or_else, driver_of}
+use Rattle.cell_arcs.specs.Steps.{or_else}
+use Rattle.netlist_model.specs.Circuit.{driver_of}
 use Rattle.netlist_model.specs.Whole.{undriven_from}
 use Rattle.netlist_model.specs.declared.parts.Instance.{Instance}
 use Rattle.netlist_model.specs.declared.parts.Tick.{Tick}

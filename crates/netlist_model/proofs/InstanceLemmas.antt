@@ -9,7 +9,8 @@ use Rattle.std.proofs.lemmas.Option.{slice_get_within, get_or_from_slice_get, sl
 use Rattle.cyc_text.specs.Name.{is_name}
 use Rattle.cell_arcs.specs.declared.cells.Cell.{Cell}
 use Rattle.cell_arcs.specs.declared.cells.CellArc.{CellArc}
-use Rattle.netlist_model.specs.Circuit.{Circuit, or_else, last_of, drives, driver_of, is_net}
+use Rattle.cell_arcs.specs.Steps.{or_else}
+use Rattle.netlist_model.specs.Circuit.{Circuit, last_of, drives, driver_of, is_net}
 use Rattle.netlist_model.specs.Sound.{IsPin, IsInstance, IsOwnDelay, HasOutput, IsNetlist, IsOfLibrary, FitsCell, Fits}
 use Rattle.netlist_model.specs.Statements.{cell_at, with_delay}
 use Rattle.netlist_model.specs.declared.parts.Delay.{Delay}

@@ -10,7 +10,8 @@ use Rattle.std.proofs.lemmas.List.Elements.{All-push, All-weaker, All-filter}
 use Rattle.std.proofs.lemmas.List.Folds.{list_any-append, list_any_at}
 use Rattle.std.proofs.lemmas.Map.Keys.{IsDistinct-push}
 use Rattle.cyc_text.specs.Name.{is_name}
-use Rattle.netlist_model.specs.Circuit.{Circuit, or_else, place_of, ref_of, is_between, drives, driver_of, last_of, roots_of, kinds_after, tick_of}
+use Rattle.cell_arcs.specs.Steps.{or_else}
+use Rattle.netlist_model.specs.Circuit.{Circuit, place_of, ref_of, is_between, drives, driver_of, last_of, roots_of, kinds_after, tick_of}
 use Rattle.netlist_model.specs.Sound.{AreNames, IsPin, IsInstance, IsTick, IsFork, IsNetlist, Fits}
 use Rattle.netlist_model.specs.Statements.{is_ref}
 use Rattle.netlist_model.specs.declared.parts.Fork.{Fork}

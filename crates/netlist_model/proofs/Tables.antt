@@ -7,7 +7,8 @@ use Rattle.std.proofs.lemmas.List.Folds.{position_or_len-set}
 use Rattle.std.proofs.lemmas.Bool.Decides.{nat_tests}
 use Rattle.std.proofs.lemmas.Grind.{common_steps}
 use Rattle.std.specs.Result.{OnOk, OnErr, IsOk}
-use Rattle.netlist_model.specs.Circuit.{or_else, place_of, inst_of, driver_of, drives, last_of, is_net, kinds_after, roots_of}
+use Rattle.cell_arcs.specs.Steps.{or_else}
+use Rattle.netlist_model.specs.Circuit.{place_of, inst_of, driver_of, drives, last_of, is_net, kinds_after, roots_of}
 use Rattle.netlist_model.specs.declared.parts.Fork.{Fork}
 use Rattle.netlist_model.specs.declared.parts.Instance.{Instance}
 use Rattle.netlist_model.specs.declared.parts.NetRef.TheVariants.{Net}

@@ -2,6 +2,7 @@
 use Rattle.std.specs.Prelude.{ℕ, ◌+◌, ◌*◌, ◌++◌, ◌==◌, ◌&&◌, Bool, true, false, if◌then◌else◌, List, [], ◌∷◌, Option, Some, None, option_map, position, find, map}
 use Rattle.std.specs.List.{list_any}
 use Rattle.std.specs.Str.{bytes_eq}
+use Rattle.cell_arcs.specs.Steps.{or_else}
 use Rattle.netlist_model.specs.declared.parts.EventName.{EventName}
 use Rattle.netlist_model.specs.declared.parts.Fork.{Fork}
 use Rattle.netlist_model.specs.declared.parts.Instance.{Instance}
@@ -21,11 +22,6 @@ pub record Circuit : Type 0 where
 -- the place of a name in a list of names
 abbrev pub place_of : List ℕ → List (List ℕ) → Option ℕ
 place_of name names = position (bytes_eq name) names
-
--- the first, or else the second
-abbrev pub or_else : {A : Type 0} → Option A → Option A → Option A
-or_else None o = o
-or_else (Some x) o = Some x
 
 -- the net with events or the constant of a name
 abbrev pub ref_of : List (List ℕ) → List (List ℕ) → List ℕ → Option NetRef

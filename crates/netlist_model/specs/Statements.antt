@@ -6,7 +6,8 @@ use Rattle.std.specs.Str.{bytes_eq}
 use Rattle.cyc_text.specs.Name.{is_name}
 use Rattle.cyc_text.specs.declared.limits.Limit.TheVariants.{Nets, Consts, Forks, Roots}
 use Rattle.cell_arcs.specs.declared.cells.Cell.{Cell}
-use Rattle.netlist_model.specs.Circuit.{Circuit, or_else, place_of, ref_of, event_of, inst_of, fork_of, driver_of, is_between, tick_of, roots_of}
+use Rattle.cell_arcs.specs.Steps.{◌>>=◌, or_fault, or_else, unless_fault}
+use Rattle.netlist_model.specs.Circuit.{Circuit, place_of, ref_of, event_of, inst_of, fork_of, driver_of, is_between, tick_of, roots_of}
 use Rattle.netlist_model.specs.declared.faults.StatementFault.{StatementFault}
 use Rattle.netlist_model.specs.declared.faults.StatementFault.TheVariants.{BadName, NameTaken, UnknownNet, UnknownCell, UnknownInst, UnknownPin, BadPins, DriverTaken, ConstDriven, NoArc, OutOfRange, TickTaken, UnknownEvent, RootTaken, ForkTaken, TooMany}
 use Rattle.netlist_model.specs.declared.parts.EventName.{EventName}
@@ -16,17 +17,6 @@ use Rattle.netlist_model.specs.declared.parts.NetRef.{NetRef}
 use Rattle.netlist_model.specs.declared.parts.NetRef.TheVariants.{Net, Const}
 use Rattle.netlist_model.specs.declared.parts.PinNet.{PinNet}
 use Rattle.netlist_model.specs.declared.parts.Tick.{Tick}
-
-infixl 10 ◌>>=◌
--- the value of the one, handed to the other, unless the one is refused
-abbrev pub ◌>>=◌ : {A B : Type 0} → Result A StatementFault → (A → Result B StatementFault) → Result B StatementFault
-Ok x >>= f = f x
-Err e >>= f = Err e
-
--- the value, or this fault where there is none
-abbrev pub or_fault : {A : Type 0} → StatementFault → Option A → Result A StatementFault
-or_fault e None = Err e
-or_fault e (Some x) = Ok x
 
 -- the rest, unless this fault's cause holds
 abbrev pub unless : {A : Type 0} → Bool → StatementFault → Result A StatementFault → Result A StatementFault
@@ -63,11 +53,6 @@ word_fault nets consts pins before w =
 unfoldable pub pin_fault : List (List ℕ) → List (List ℕ) → List (List ℕ) → List PinNet → List PinNet → Option StatementFault
 pin_fault nets consts pins before [] = None
 pin_fault nets consts pins before (w ∷ ws) = or_else (word_fault nets consts pins before w) (pin_fault nets consts pins (before ++ w ∷ []) ws)
-
--- the fault where there is one
-abbrev pub unless_fault : {A : Type 0} → Option StatementFault → Result A StatementFault → Result A StatementFault
-unless_fault None r = r
-unless_fault (Some e) r = Err e
 
 -- what a pin is on, by the word that gives it
 abbrev pub wire_of : List (List ℕ) → List (List ℕ) → List PinNet → List ℕ → Option NetRef

@@ -2,7 +2,8 @@
 use Rattle.std.specs.Prelude.{◌≡◌, Result, MatchResult, ℕ, ◌+◌, not, Bool, nat_lt, if◌then◌else◌, List, [], ◌∷◌, Option, Some, None, option_map, is_none, position, length}
 use Rattle.std.specs.List.{list_any}
 use Rattle.cell_arcs.specs.declared.cells.Cell.{Cell}
-use Rattle.netlist_model.specs.Circuit.{Circuit, or_else, driver_of, is_between}
+use Rattle.cell_arcs.specs.Steps.{or_else}
+use Rattle.netlist_model.specs.Circuit.{Circuit, driver_of, is_between}
 use Rattle.netlist_model.specs.Expansion.{Rule, rules_of}
 use Rattle.netlist_model.specs.declared.faults.WholeFault.{WholeFault}
 use Rattle.netlist_model.specs.declared.faults.WholeFault.TheVariants.{Undriven, NoRoot, IdleTick, TooManyRules}

@@ -1,5 +1,6 @@
 ghost use Rattle.std.specs.Prelude.{◌≡◌, ◌≢◌, ◌<◌, ◌≤◌, ◌*◌, ◌++◌, ◌∷◌, [], None, Some, true, position, Ok, Err, IfOk, IfErr, IfSome, IsSome, List, OnErr, OnOk, length, map, option_map, slice_get};
 ghost use Rattle.std.specs.List.{flat_map};
+ghost use Rattle.cell_arcs.specs.Steps.{or_fault};
 ghost use Rattle.cell_arcs.specs.declared.cells.Cell.{Cell};
 ghost use Rattle.std.specs.Str.{bytes_eq};
 ghost use Rattle.cyc_text.specs.Name as names;
@@ -268,7 +269,7 @@ impl Netlist {
 
     /// The event of a name, or the fault where there is none.
     fn event_named(&self, event: &EventName) -> Result<u32, StatementFault>
-        ensures event { result ≡ spec.or_fault UnknownEvent (event_of self.now.nets event.now) }
+        ensures event { result ≡ or_fault UnknownEvent (event_of self.now.nets event.now) }
         ensures within { IfOk result (λ e. e < 2 * length self.now.nets) }
     {
         match self.event(event.net.bytes(), event.rising) {

@@ -3,6 +3,7 @@ use Rattle.std.specs.Prelude.{◌+◌, ◌==◌, ℕ, false, if◌then◌else◌
 use Rattle.std.specs.Str.Lines.{lines}
 use Rattle.cyc_text.specs.Words.{words_of}
 use Rattle.cell_arcs.specs.declared.cells.Cell.{Cell}
+use Rattle.cell_arcs.specs.Steps.{◌>>=◌}
 use Rattle.netlist_model.specs.Circuit.{Circuit}
 use Rattle.netlist_model.specs.Edits.{made}
 use Rattle.netlist_model.specs.Statements.{set_root}
@@ -12,12 +13,6 @@ use Rattle.netlist_model.specs.declared.faults.StatementFault.{StatementFault}
 use Rattle.netlist_reader.specs.EditLines.{edit_of}
 use Rattle.netlist_reader.specs.declared.faults.NetFault.{NetFault}
 use Rattle.netlist_reader.specs.declared.faults.NetFault.TheVariants.{Syntax, Statement}
-
-infixl 10 ◌>>=◌
--- the netlist of the one, handed to the other, unless the one is refused
-abbrev pub ◌>>=◌ : Result Circuit NetFault → (Circuit → Result Circuit NetFault) → Result Circuit NetFault
-Ok c >>= f = f c
-Err e >>= f = Err e
 
 -- a netlist with nothing in it
 abbrev pub nothing : Circuit

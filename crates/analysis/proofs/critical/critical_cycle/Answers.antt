@@ -1,5 +1,5 @@
 use Rattle.std.proofs.Common.{sym}
-use Rattle.first_cycle.specs.Levels.{kept_by}
+use Rattle.rule_system.specs.FirstCycle.{kept_by}
 use Rattle.rule_system.specs.Weights.{is_tight}
 use Rattle.analysis.proofs.Tight.{Agree, cycle_kept, first_kept}
 use Rattle.analysis.proofs.critical.critical_cycle.Goals as goal

@@ -1,5 +1,5 @@
 use Rattle.std.proofs.Common.{◌≡◌, ◌<◌, ℕ, length}
-use Rattle.first_cycle.specs.Levels.{kept_by}
+use Rattle.rule_system.specs.FirstCycle.{kept_by}
 use Rattle.rule_system.specs.Weights.{is_tight}
 use Rattle.analysis.proofs.critical.tight_flags.Given as goal
 

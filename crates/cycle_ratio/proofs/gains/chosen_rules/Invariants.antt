@@ -1,5 +1,5 @@
 use Rattle.std.proofs.Common.{◌≡◌, ◌<◌, ℕ, length}
-use Rattle.first_cycle.specs.Levels.{kept_by}
+use Rattle.rule_system.specs.FirstCycle.{kept_by}
 use Rattle.cycle_ratio.specs.Trees.{is_chosen}
 use Rattle.cycle_ratio.proofs.gains.chosen_rules.Given as goal
 

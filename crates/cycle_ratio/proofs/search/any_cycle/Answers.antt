@@ -1,6 +1,6 @@
 use Rattle.std.proofs.Common.{◌≡◌, ◌<◌, ℕ, true, false, length}
 use Rattle.std.proofs.lemmas.List.{get_or-replicate}
-use Rattle.first_cycle.specs.Levels.{kept_by}
+use Rattle.rule_system.specs.FirstCycle.{kept_by}
 use Rattle.cycle_ratio.proofs.Trees.{all_kept, first_short}
 use Rattle.cycle_ratio.proofs.search.any_cycle.Goals as goal
 

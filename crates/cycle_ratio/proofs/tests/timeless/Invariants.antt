@@ -1,6 +1,6 @@
 use Rattle.std.proofs.Common.{◌≡◌, ◌<◌, ℕ, true, length}
 use Rattle.rule_system.specs.Rules.{rule_at}
-use Rattle.first_cycle.specs.Levels.{kept_by}
+use Rattle.rule_system.specs.FirstCycle.{kept_by}
 use Rattle.cycle_ratio.proofs.tests.timeless.Given as goal
 
 abbrev pub invariant-rules : goal.invariant-rules

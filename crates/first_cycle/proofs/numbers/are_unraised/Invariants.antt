@@ -1,6 +1,6 @@
 use Rattle.std.proofs.Common.{◌≡◌, ℕ, ◌<◌, ◌≤◌, true}
 use Rattle.rule_system.specs.Rules.{source_of, target_of}
-use Rattle.first_cycle.specs.Levels.{kept_by}
+use Rattle.rule_system.specs.FirstCycle.{kept_by}
 use Rattle.first_cycle.specs.Numbers.{number_of}
 use Rattle.first_cycle.proofs.numbers.are_unraised.Given as goal
 

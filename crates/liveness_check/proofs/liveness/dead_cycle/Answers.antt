@@ -1,8 +1,6 @@
 use Rattle.std.proofs.Common.{ℕ, List}
-use Rattle.rule_system.specs.Walks.{IsCycle, IsKept, IsLive}
-use Rattle.rule_system.specs.FirstCycle.{IsFirstCycle}
-use Rattle.first_cycle.specs.Levels.{kept_by}
-use Rattle.liveness_check.specs.Liveness.{without_offset}
+use Rattle.rule_system.specs.Walks.{IsCycle, IsKept, IsLive, has_no_offset}
+use Rattle.rule_system.specs.FirstCycle.{IsFirstCycle, kept_by}
 use Rattle.liveness_check.proofs.Outcomes.{ok_some, ok_none}
 use Rattle.liveness_check.proofs.Offsets.{flags_of, first_by_flags, live_by_flags}
 use Rattle.liveness_check.proofs.liveness.dead_cycle.Goals as goal
@@ -11,7 +9,7 @@ pub returns-clause-some : goal.returns-clause-some
 returns-clause-some c =
     ok_some c.first_cycle.result
     (IsFirstCycle c.args.system.now.rules (kept_by (flags_of c.args.system.now.rules)))
-    (IsFirstCycle c.args.system.now.rules (without_offset c.args.system.now.rules))
+    (IsFirstCycle c.args.system.now.rules (has_no_offset c.args.system.now.rules))
     (first_by_flags c.args.system.now.rules)
     (rw (c.deref.ensures.value, c.in_ok-keep.ensures, c.rules.ensures.rules) at c.first_cycle.ensures.some)
 
