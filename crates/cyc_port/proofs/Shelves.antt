@@ -3,7 +3,6 @@ use Rattle.std.proofs.Common.{◌≡◌, ℕ, ◌<◌, ◌≤◌, true, false, L
 use Rattle.std.proofs.lemmas.Bool.{cases_Bool, cases_lt, lt-ltb}
 use Rattle.std.proofs.lemmas.List.Quantifiers.{position-Some}
 use Rattle.std.specs.List.{position, position_or_len}
-use Rattle.std.specs.FinMap as finite
 use Rattle.cyc_port.specs.Rows.{has_name, file_of, change_first}
 use Rattle.cyc_port.specs.declared.memory.NamedFile.{NamedFile}
 

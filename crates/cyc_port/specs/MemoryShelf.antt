@@ -1,5 +1,5 @@
 -- A shelf in memory: what it holds, what a read answers, and what the read leaves.
-use Rattle.std.specs.Prelude.{◌≡◌, ◌==◌, ◌⊎◌, ℕ, List, length, nat_lt, Ok, Err, Some, None, is_some, if◌then◌else◌}
+use Rattle.std.specs.Prelude.{◌≡◌, ◌==◌, ◌⊎◌, ℕ, List, Ok, Err, Some, None, is_some, if◌then◌else◌}
 use Rattle.std.specs.declared.option.Option.{Option}
 use Rattle.std.specs.declared.result.Result.{Result}
 use Rattle.std.specs.List.{list_any}
@@ -7,7 +7,7 @@ use Rattle.cyc_port.specs.declared.memory.NamedFile.{NamedFile}
 use Rattle.cyc_port.specs.declared.shelf.ShelfFault.{ShelfFault}
 use Rattle.cyc_port.specs.declared.shelf.ShelfFault.TheVariants.{Failed, TooLong, Memory}
 use Rattle.cyc_port.specs.Counts.{raised}
-use Rattle.cyc_port.specs.Files.{file_limit}
+use Rattle.cyc_port.specs.Faults.{answer_of_bytes}
 use Rattle.cyc_port.specs.Rows.{file_of, with_fault, with_long, change_first}
 
 -- the files with their counts, the numbers of the calls that fail, the faults of all names without a file, and the calls so far
@@ -24,7 +24,7 @@ new_shelf files fail = record { files = files; fail = fail; other = 0; calls = 0
 -- a name's file answers its bytes, or that they are too many; without a file the read fails
 abbrev pub answer_from : Option NamedFile → Result (List ℕ) ShelfFault
 answer_from None = Err Failed
-answer_from (Some file) = if nat_lt file_limit (length file.bytes) then Err TooLong else Ok file.bytes
+answer_from (Some file) = answer_of_bytes file.bytes
 
 -- a read fails where the call's number is listed; else the first file of the name answers
 abbrev pub answer_of : ShelfState → List ℕ → Result (List ℕ) ShelfFault

@@ -2,11 +2,14 @@
 ghost use Rattle.std.specs.Prelude.{◌≡◌, ℕ, List, IfOk, IsErrOf};
 ghost use Rattle.std.specs.declared.option.Option.{Option};
 ghost use Rattle.cyc_port.specs.declared.shelf.ShelfFault.TheVariants.{Memory};
+ghost use Rattle.std.specs.IoError.{error_kind};
 ghost use Rattle.cyc_port.specs.Counts.{Rose, NoneFell};
+ghost use Rattle.cyc_port.specs.Faults.{fault_of};
 ghost use Rattle.cyc_port.specs.Files.{Files, IsFile, IsLongFile};
 
 use cyc_text::Text;
 use std::alloc::{AllocError, Global};
+use std::io::{Error, ErrorKind};
 
 /// The most bytes of a file, 16 MiB.
 pub const FILE_LIMIT: usize = 16_777_216;
@@ -14,7 +17,7 @@ pub const FILE_LIMIT: usize = 16_777_216;
 /// Why a file was not read.
 #[derive(Clone, Copy, Debug, PartialEq, Eq)]
 pub enum ShelfFault {
-    /// It is not there, or a read of it failed.
+    /// It could not be opened, or a read of it failed.
     Failed,
     /// It has more than 16,777,216 bytes.
     TooLong,
@@ -27,6 +30,18 @@ impl From<AllocError> for ShelfFault {
 
     fn from(_: AllocError) -> Self {
         ShelfFault::Memory
+    }
+}
+
+// An error of the kind "out of memory" is want of memory, each other error a failure.
+impl From<Error> for ShelfFault {
+    ghost from_gives = { λ error fault. fault ≡ fault_of (error_kind error) };
+
+    fn from(error: Error) -> Self {
+        match error.kind() {
+            ErrorKind::OutOfMemory => ShelfFault::Memory,
+            _ => ShelfFault::Failed,
+        }
     }
 }
 

@@ -1,10 +1,11 @@
+use crate::file_shelf::text_of;
 use crate::{
     FileShelf, Gate, MemShelf, MemSink, NamedFile, OpenGate, Shelf, ShelfFault, Sink, SinkFailed,
     SinkStop, StdoutSink,
 };
 use cyc_text::Text;
 use std::alloc::{AllocError, Global};
-use std::io::{Error, ErrorKind, Write};
+use std::io::{Error, ErrorKind, Read, Write};
 use std::path::PathBuf;
 use std::test::Fail;
 use std::{env, fs, io, process};
@@ -92,6 +93,15 @@ fn filled(alloc: Global, len: usize) -> Result<Vec<u8>, AllocError> {
     vec![in alloc; b'#'; len]
 }
 
+// Bytes that differ along the list.
+fn striped(alloc: Global, len: usize) -> Result<Vec<u8>, AllocError> {
+    let mut bytes = Vec::new(alloc);
+    for i in 0..len {
+        bytes.push((i % 251) as u8)?;
+    }
+    Ok(bytes)
+}
+
 #[test]
 fn file_shelf_reads(rt: HostRuntime) -> Result<(), Fail> {
     let path = passing_name(&rt, "shelf")?;
@@ -100,13 +110,76 @@ fn file_shelf_reads(rt: HostRuntime) -> Result<(), Fail> {
     let missing = shelf.read_all(rt.alloc(), name);
     fs::write(&rt, name, b"net a b\r\n\xff".as_slice())?;
     let short = shelf.read_all(rt.alloc(), name);
+    let stripes = striped(rt.alloc(), 70_000)?;
+    fs::write(&rt, name, stripes.as_slice())?;
+    let wide = shelf.read_all(rt.alloc(), name);
     fs::write(&rt, name, filled(rt.alloc(), 16_777_217)?.as_slice())?;
     let long = shelf.read_all(rt.alloc(), name);
     fs::remove_file(&rt, name)?;
     assert_eq!(rt; missing.err(), Some(ShelfFault::Failed));
     let text = short.ok().ok_or("a text")?;
     assert_eq!(rt; text.bytes(), b"net a b\r\n\xff".as_slice());
+    let text = wide.ok().ok_or("a text")?;
+    assert!(rt; text.bytes() == stripes.as_slice());
     assert_eq!(rt; long.err(), Some(ShelfFault::TooLong));
+    Ok(())
+}
+
+// A folder can be opened, and no read of it succeeds.
+#[test]
+fn file_shelf_fails_on_folders(rt: HostRuntime) -> Result<(), Fail> {
+    let folder = env::temp_dir(&rt)?;
+    let answer = FileShelf::new(rt.clone()?).read_all(rt.alloc(), folder.as_str());
+    assert_eq!(rt; answer.err(), Some(ShelfFault::Failed));
+    Ok(())
+}
+
+// A reader that is interrupted once, and then fails or gives a byte and ends.
+#[derive(Drop)]
+struct Halting {
+    interrupted: bool,
+    fault: Option<ErrorKind>,
+    rest: &'static [u8],
+}
+
+impl Read for Halting {
+    fn read(&mut self, buf: &mut [u8]) -> io::Result<usize> {
+        if !self.interrupted {
+            self.interrupted = true;
+            return Err(Error::from(ErrorKind::Interrupted));
+        }
+        match self.fault {
+            Some(kind) => Err(Error::from(kind)),
+            None => self.rest.read(buf),
+        }
+    }
+}
+
+fn opened(fault: Option<ErrorKind>) -> io::Result<Halting> {
+    Ok(Halting {
+        interrupted: false,
+        fault,
+        rest: b"a",
+    })
+}
+
+fn unopened(kind: ErrorKind) -> io::Result<Halting> {
+    Err(Error::from(kind))
+}
+
+#[test]
+fn errors_are_told(rt: HostRuntime) -> Result<(), Fail> {
+    let alloc = rt.alloc();
+    for (source, want) in [
+        (unopened(ErrorKind::NotFound), ShelfFault::Failed),
+        (unopened(ErrorKind::OutOfMemory), ShelfFault::Memory),
+        (opened(Some(ErrorKind::Other)), ShelfFault::Failed),
+        (opened(Some(ErrorKind::OutOfMemory)), ShelfFault::Memory),
+    ] {
+        assert_eq!(rt; text_of(source, alloc).err(), Some(want));
+    }
+    let text = text_of(opened(None), alloc).ok().ok_or("a text")?;
+    assert_eq!(rt; text.bytes(), b"a".as_slice());
     Ok(())
 }
 
