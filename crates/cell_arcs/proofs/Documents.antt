@@ -49,7 +49,7 @@ unfolding IsStrictlySortedBy
 member_keys-ascend [] h = tt
 member_keys-ascend (e ∷ es) h = (below_keys e.0 es h.0, member_keys-ascend es h.1)
 
-length-member_keys : (ms : Members) → length (member_keys ms) ≡ member_count ms
+pub length-member_keys : (ms : Members) → length (member_keys ms) ≡ member_count ms
 length-member_keys no_members = refl
 length-member_keys (member k d ms) = omega (arith, length-member_keys ms)
 

@@ -5,3 +5,5 @@ pub mod Sound
 pub mod Documents
 pub mod Indexes
 pub mod Computed
+pub mod AscendingKeys
+pub mod SoundLibraries

@@ -26,16 +26,16 @@ use Rattle.cell_arcs.specs.IsLibrary.{IsArc, AreArcs, IsCell, member_keys}
 use Rattle.toml.specs.Data.{Data, Members, no_members, member}
 
 -- an accepted step was handed an accepted value
-bind_ok : {A B : Type 0} (r : Result A LibraryFault) (f : A → Result B LibraryFault) (y : B) → r >>= f ≡ Ok y → (x : A) × (r ≡ Ok x) × (f x ≡ Ok y)
+pub bind_ok : {A B : Type 0} (r : Result A LibraryFault) (f : A → Result B LibraryFault) (y : B) → r >>= f ≡ Ok y → (x : A) × (r ≡ Ok x) × (f x ≡ Ok y)
 bind_ok (Ok x) f y h = (x, refl, h)
 bind_ok (Err e) f y h = cc
 
-or_fault_ok : {A : Type 0} (e : LibraryFault) (o : Option A) (x : A) → or_fault e o ≡ Ok x → o ≡ Some x
+pub or_fault_ok : {A : Type 0} (e : LibraryFault) (o : Option A) (x : A) → or_fault e o ≡ Ok x → o ≡ Some x
 or_fault_ok e None x h = cc
 or_fault_ok e (Some y) x h = cc
 
 -- a refused branch was not taken
-if_err : {A : Type 0} (b : Bool) (e : LibraryFault) (r : Result A LibraryFault) (x : A) → (if b then Err e else r) ≡ Ok x → (b ≡ false) × (r ≡ Ok x)
+pub if_err : {A : Type 0} (b : Bool) (e : LibraryFault) (r : Result A LibraryFault) (x : A) → (if b then Err e else r) ≡ Ok x → (b ≡ false) × (r ≡ Ok x)
 if_err true e r x h = cc
 if_err false e r x h = (refl, h)
 

@@ -6,3 +6,5 @@ pub mod Places
 pub mod RuleLemmas
 pub mod Soundness
 pub mod Tables
+pub mod Kept
+pub mod Refusals

@@ -7,6 +7,7 @@ mod faults;
 mod forks;
 mod instances;
 mod keys;
+pub mod laws;
 mod names;
 mod netlist;
 mod parts;

@@ -10,5 +10,6 @@ pub mod ReadBack
 pub mod Refusals
 pub mod Said
 pub mod Sections
+pub mod SoundFiles
 pub mod Texts
 pub mod TickBlocks

@@ -14,6 +14,6 @@ mod writing_tests;
 
 pub use faults::{LineFault, NetFault};
 pub use files::read;
-pub use laws::{first_line_refuses, written_netlists_are_read_back};
+pub use laws::{first_line_refuses, netlists_are_sound, written_netlists_are_read_back};
 pub use lines::read_edit;
 pub use writing::write;
