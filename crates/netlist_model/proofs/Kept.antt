@@ -8,10 +8,11 @@ use Rattle.std.proofs.lemmas.List.Elements.{All-nil, All-push}
 use Rattle.cyc_text.specs.Name.{is_name}
 use Rattle.cyc_text.specs.declared.limits.Limit.TheVariants.{Nets, Consts, Forks, Roots}
 use Rattle.cell_arcs.specs.declared.cells.Cell.{Cell}
-use Rattle.netlist_model.specs.Circuit.{Circuit, or_else, place_of, ref_of, event_at, event_of, inst_of, fork_of, driver_of, is_between, tick_of, roots_of}
+use Rattle.cell_arcs.specs.Steps.{or_else, or_fault, unless_fault, ◌>>=◌}
+use Rattle.netlist_model.specs.Circuit.{Circuit, place_of, ref_of, event_at, event_of, inst_of, fork_of, driver_of, is_between, tick_of, roots_of}
 use Rattle.netlist_model.specs.Edits.{made}
 use Rattle.netlist_model.specs.Sound.{IsPin, IsTick, IsNetlist, Fits}
-use Rattle.netlist_model.specs.Statements.{◌>>=◌, or_fault, unless, unless_fault, is_ref, add_net, add_const, pin_fault, wire_of, wires_of, output_fault, add_inst_of, add_inst, arc_of, cell_at, set_delay, end_tick, start_tick, set_tick, set_root, add_fork_of, add_fork}
+use Rattle.netlist_model.specs.Statements.{unless, is_ref, add_net, add_const, pin_fault, wire_of, wires_of, output_fault, add_inst_of, add_inst, arc_of, cell_at, set_delay, end_tick, start_tick, set_tick, set_root, add_fork_of, add_fork}
 use Rattle.netlist_model.specs.declared.edits.Edit.{Edit}
 use Rattle.netlist_model.specs.declared.edits.Edit.TheVariants as edit
 use Rattle.netlist_model.specs.declared.faults.StatementFault.{StatementFault}

@@ -14,7 +14,8 @@ use Rattle.netlist_model.specs.declared.faults.StatementFault.TheVariants.{Unkno
 use Rattle.netlist_model.specs.declared.faults.StatementFault.TheVariants as statement
 use Rattle.netlist_model.specs.declared.parts.EventName.{EventName}
 use Rattle.netlist_reader.specs.EditLines.{edit_of}
-use Rattle.netlist_reader.specs.NetlistFiles.{◌>>=◌, nothing, stated, at_line, after_edit, after_words, after_lines, netlist_of}
+use Rattle.cell_arcs.specs.Steps.{◌>>=◌}
+use Rattle.netlist_reader.specs.NetlistFiles.{nothing, stated, at_line, after_edit, after_words, after_lines, netlist_of}
 use Rattle.netlist_reader.specs.declared.faults.NetFault.{NetFault}
 use Rattle.netlist_reader.specs.declared.faults.NetFault.TheVariants.{Syntax, Statement, Memory}
 
