@@ -23,6 +23,7 @@ const FILES: &str = "\
 net A~|net  B # two~|~|net\tC~| inst i1 INV A=A Z=B ~|inst i2 INV  A=B Z=C~|inst i3 INV Z=A A=C~|root A+~|tick C- A+ 1~| => net A|net B|net C|inst i1 INV A=A Z=B|inst i2 INV A=B Z=C|inst i3 INV A=C Z=A|tick C- A+ 1|root A+|
 net A|net B|net C|inst i1 INV A=A Z=B|inst i2 INV A=B Z=C|inst i3 INV A=C Z=A|tick C- A+ 1|root A+|delay i1 A 15 10| => net A|net B|net C|inst i1 INV A=A Z=B|inst i2 INV A=B Z=C|inst i3 INV A=C Z=A|delay i1 A 15 10|tick C- A+ 1|root A+|
 const rst|net A|inst n NOR2 Z=A B=rst A=A|delay n A 7 8|fork g A- A+ A- 0 0|delay n B 0 1000000|fork f A+ A- A+ 5 15|tick A- A+ 2|tick A+ A- 1|tick A- A+ 0|net B => net A|net B|const rst|inst n NOR2 A=A B=rst Z=A|delay n B 0 1000000|delay n A 7 8|tick A+ A- 1|fork g A- A+ A- 0 0|fork f A+ A- A+ 5 15|
+net A|net B|inst z INV A=A Z=B|inst a INV A=B Z=A|delay a A 0 0|delay z A 12 10| => net A|net B|inst z INV A=A Z=B|inst a INV A=B Z=A|delay z A 12 10|delay a A 0 0|
 net long_name_of_64_bytes[0]/1234567890123456789012345678901234567.x => net long_name_of_64_bytes[0]/1234567890123456789012345678901234567.x|
 ";
 
