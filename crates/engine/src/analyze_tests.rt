@@ -246,11 +246,15 @@ fn forked_ring(alloc: Global) -> Result<String, AllocError> {
 #[test]
 fn the_most_forks_and_roots(rt: HostRuntime) -> Result<(), Fail> {
     let alloc = rt.alloc();
-    let netlist = forked_ring(alloc)?;
+    let mut netlist = forked_ring(alloc)?;
     let (outcome, sink) = analyze(&rt, alloc, LIBRARY.as_bytes(), netlist.as_bytes())?;
     let front = "period 726/1\ncycle 66 726 1\nstep 1 n0+ n1- 10 0\n";
     let back = "fork f254 362/1 met\nfork f255 362/1 met\nend\n";
     assert!(rt; is_framed(&outcome, &sink, front, back));
+    // One fork more, on one root more: of the two limits that of the forks is told.
+    netlist.push_str("fork h n32+ n0+ n0- 0 0\n")?;
+    let (outcome, sink) = analyze(&rt, alloc, LIBRARY.as_bytes(), netlist.as_bytes())?;
+    assert!(rt; is_written(&outcome, &sink, b"fault: netlist line 325 S18 forks\n"));
     Ok(())
 }
 
