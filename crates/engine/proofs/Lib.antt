@@ -3,3 +3,4 @@ pub mod Judging
 pub mod Completing
 pub mod ForkLemmas
 pub mod OneAnswer
+pub mod Answered

@@ -1,5 +1,5 @@
 -- What reading a library, and answering for a netlist, may give.
-use Rattle.std.specs.Prelude.{◌≡◌, ◌≢◌, ℕ, List, Result, Ok, Err}
+use Rattle.std.specs.Prelude.{◌≡◌, ◌≢◌, List, Result, Ok, Err}
 use Rattle.cell_arcs.specs.declared.cells.Cell.{Cell}
 use Rattle.cell_arcs.specs.declared.faults.LibraryFault.{LibraryFault}
 use Rattle.cell_arcs.specs.declared.faults.LibraryFault.TheVariants as library
@@ -42,6 +42,12 @@ OfNetlist (NoReturn event) = Unit {0}
 OfNetlist (Dead events) = Unit {0}
 OfNetlist (ReadFault name) = ⊥
 OfNetlist (TooLong name) = ⊥
+
+-- a line that tells no want of memory
+abbrev pub TellsNoWant : FaultLine → Type 0
+TellsNoWant (Library e) = e ≢ library.Memory
+TellsNoWant (NetStatement line e) = e ≢ statement.Memory
+TellsNoWant line = Unit {0}
 
 -- the line tells why the library is refused
 abbrev pub IsRefusal : Result (List Cell) LibraryFault → FaultLine → Type 0
