@@ -255,16 +255,18 @@ fn the_most_forks_and_roots(rt: HostRuntime) -> Result<(), Fail> {
 }
 
 #[test]
-fn each_file_is_judged_before_the_next_is_read(rt: HostRuntime) -> Result<(), Fail> {
+fn each_file_is_judged_before_the_next_and_read_once(rt: HostRuntime) -> Result<(), Fail> {
     let alloc = rt.alloc();
     let netlist = netlist_bytes(alloc, "%")?;
-    let mut shelf = shelf(alloc, b"x = ", &netlist, vec![in alloc; 1]?)?;
     let words = "analyze lib.toml ring.net";
-    let (outcome, sink) = run(&rt, alloc, words, &mut shelf, Vec::new(alloc))?;
-    assert!(rt; is_written(&outcome, &sink, b"fault: library L1\n"));
-    // The refused library took call 0 alone, so the next run's first call is call 1, which fails.
-    let (outcome, sink) = run(&rt, alloc, words, &mut shelf, Vec::new(alloc))?;
-    assert!(rt; is_written(&outcome, &sink, b"fault: read lib.toml\n"));
+    // A refused library takes one call, an accepted one and its netlist two; the first call of the next run fails.
+    for (library, calls, status) in [("x = ", 1, 3), (LIBRARY, 2, 0)] {
+        let mut shelf = shelf(alloc, library.as_bytes(), &netlist, vec![in alloc; calls]?)?;
+        let (outcome, _sink) = run(&rt, alloc, words, &mut shelf, Vec::new(alloc))?;
+        assert_eq!(rt; outcome.status, status);
+        let (outcome, sink) = run(&rt, alloc, words, &mut shelf, Vec::new(alloc))?;
+        assert!(rt; is_written(&outcome, &sink, b"fault: read lib.toml\n"));
+    }
     Ok(())
 }
 
