@@ -59,7 +59,7 @@ word_starts bytes line at word inside after is =
     omega (arith, n, starts)
 
 -- how long a part of the text is
-part_len : (bytes : List ℕ) (from to : ℕ) → to ≤ length bytes → length (slice_range bytes from to) ≡ to - from
+pub part_len : (bytes : List ℕ) (from to : ℕ) → to ≤ length bytes → length (slice_range bytes from to) ≡ to - from
 part_len bytes from to inside = omega (arith, length-take {A = ℕ}, length-drop {A = ℕ})
 
 pub first_words_are_unique : FirstWordsAreUnique

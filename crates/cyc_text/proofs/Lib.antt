@@ -1,3 +1,4 @@
+pub mod FirstLineLemmas
 pub mod FirstWordLemmas
 pub mod LineLemmas
 pub mod NumberLemmas

@@ -10,7 +10,7 @@ use Rattle.std.specs.Option.{SomeIff}
 use Rattle.std.specs.Char.{is_ascii_digit, digit_value, IsAsciiDigit}
 use Rattle.std.specs.List.{AllPass, list_all}
 use Rattle.std.specs.Str.Parse.{digits_value, AllDigits}
-use Rattle.cyc_text.specs.Number.{IsNumber, number_test, number_of}
+use Rattle.cyc_text.specs.Number.{IsNumber, number_test, number_of, TestTellsNumbers}
 
 -- 18 digits or fewer leave room for one more
 pub digits_value-small : (word : List ℕ) (i : ℕ) → AllDigits 10 (take i word) → i < length word → length word ≤ 19 → digits_value 10 (take i word) < 10 ^ 18
@@ -59,6 +59,9 @@ to_test word is =
       | inr other ↦ or_right (length word == 1) (not (get_or word 0 0 == 48)) (not_from_false (get_or word 0 0 == 48) (ne_eqb (get_or word 0 0) 48 other))
     ] in
     and_from _ _ (and_from _ _ (and_from _ _ (le-leb 1 (length word) is.some) (le-leb (length word) 19 is.short)) (list_all-from_AllPass is_ascii_digit word is.digits)) zero_test
+
+pub test_tells_numbers : TestTellsNumbers
+test_tells_numbers word = (from_test word, to_test word)
 
 pub number_of-is : (word : List ℕ) (r : Option ℕ) → SomeIff r (IsNumber word) (digits_value 10 word) → r ≡ number_of word
 unfolding number_of

@@ -1,5 +1,5 @@
 -- Numbers.
-use Rattle.std.specs.Prelude.{◌≡◌, ◌≢◌, ◌≤◌, ◌⊎◌, ◌==◌, ◌||◌, ◌&&◌, ℕ, Bool, not, List, length, nat_le, slice_index, Some, None, if◌then◌else◌}
+use Rattle.std.specs.Prelude.{◌≡◌, ◌≢◌, ◌≤◌, ◌⊎◌, ◌==◌, ◌||◌, ◌&&◌, ◌↔◌, true, ℕ, Bool, not, List, length, nat_le, slice_index, Some, None, if◌then◌else◌}
 use Rattle.std.specs.declared.option.Option.{Option}
 use Rattle.std.specs.Str.Parse.{digits_value}
 use Rattle.std.specs.List.{AllPass, list_all}
@@ -15,6 +15,10 @@ pub record IsNumber (word : List ℕ) : Type 0 where
 -- the same, as a test
 unfoldable pub number_test : List ℕ → Bool
 number_test word = nat_le 1 (length word) && nat_le (length word) 19 && list_all is_ascii_digit word && (length word == 1 || not (slice_index word 0 == 48))
+
+-- the test passes just the numbers
+abbrev pub TestTellsNumbers : Type 0
+TestTellsNumbers = (word : List ℕ) → (number_test word ≡ true) ↔ IsNumber word
 
 -- a number's value
 unfoldable pub number_of : List ℕ → Option ℕ

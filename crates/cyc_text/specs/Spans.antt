@@ -48,6 +48,10 @@ pub record IsFirstWord (bytes : List ℕ) (line : LineSpan) (at : ℕ) (word : W
   -- so a reader may go on with the rest of the line as its line, and looks at no byte twice
   pub further : words_left bytes line word.to ≡ words_of (slice_range bytes word.to line.to)
 
+-- at most one span is the first line of a text from a place on
+abbrev pub FirstLinesAreUnique : Type 0
+FirstLinesAreUnique = (bytes : List ℕ) (at : ℕ) (line other : LineSpan) → IsFirstLine bytes at line → IsFirstLine bytes at other → line ≡ other
+
 -- at most one span is the first word of a line from a place on
 abbrev pub FirstWordsAreUnique : Type 0
 FirstWordsAreUnique = (bytes : List ℕ) (line : LineSpan) (at : ℕ) (word other : WordSpan) → line.to ≤ length bytes → line.from ≤ at

@@ -3,9 +3,11 @@ use Rattle.std.specs.Prelude.{ℕ, ◌-◌, ◌==◌, ◌||◌, Bool, not, List,
 use Rattle.std.specs.List.{slice_split, before_first}
 use Rattle.cyc_text.specs.declared.spans.LineSpan.{LineSpan}
 
+-- a line feed
 abbrev pub is_newline : ℕ → Bool
 is_newline b = b == 10
 
+-- a '#'
 abbrev pub is_hash : ℕ → Bool
 is_hash b = b == 35
 
@@ -13,6 +15,7 @@ is_hash b = b == 35
 abbrev pub is_blank : ℕ → Bool
 is_blank b = (b == 32) || (b == 9)
 
+-- neither a space nor a tab
 abbrev pub is_no_blank : ℕ → Bool
 is_no_blank b = not (is_blank b)
 

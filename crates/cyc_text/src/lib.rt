@@ -10,7 +10,10 @@ mod spans;
 mod tests;
 mod text;
 
-pub use laws::{first_words_are_unique, lines_are_read_back, words_are_plain, words_are_read_back};
+pub use laws::{
+    first_lines_are_unique, first_words_are_unique, lines_are_read_back, numbers_are_told,
+    words_are_plain, words_are_read_back,
+};
 pub use limits::Limit;
 pub use names::is_name;
 pub use numbers::read_number;
