@@ -13,6 +13,7 @@ IsFork events fork = (fork.root < events) × (fork.fast < events) × (fork.slow 
 abbrev pub no_fork : ForkOf
 no_fork = record { root = 0; fast = 0; slow = 0; margin = 0; offset = 0 }
 
+-- the fork of a number
 abbrev pub fork_at : List ForkOf → ℕ → ForkOf
 fork_at forks n = slice_index_or forks n no_fork
 

@@ -5,6 +5,7 @@ use Rattle.rule_system.specs.InverterRing.{inverter_ring, ring_times}
 use Rattle.fork_slack.specs.declared.slacks.ForkOf.{ForkOf}
 use Rattle.analysis.specs.declared.analyses.Analysis.{Analysis}
 
+-- the ring of three inverters, as a system
 abbrev pub ring_system : EventRules
 ring_system = record { events = 6; rules = inverter_ring }
 

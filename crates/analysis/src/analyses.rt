@@ -21,7 +21,7 @@ use std::thread::Threads;
 /// The analysis of a system from a root, with the slacks of forks.
 #[derive(Drop)]
 pub struct Analysis {
-    /// Picoseconds for each token, in lowest terms: the greatest ratio of delay to offset over all cycles.
+    /// Picoseconds a repetition, in lowest terms: the greatest ratio of delay to offset over all cycles.
     pub period: Ratio,
     /// The first of the cycles of tight rules.
     pub cycle: Cycle,

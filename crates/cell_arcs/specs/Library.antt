@@ -17,12 +17,15 @@ use Rattle.cell_arcs.specs.declared.faults.LibraryFault.TheVariants.{BadToml, Ba
 
 -- ---- the keys of an arc and of a cell, where each is there and of its kind
 
+-- a key's string, where it is one
 abbrev pub string_at : List ℕ → Data → Option (List ℕ)
 string_at key d = get key d >>? as_str
 
+-- a key's integer, where it is one
 abbrev pub integer_at : List ℕ → Data → Option ℤ
 integer_at key d = get key d >>? as_integer
 
+-- a key's array, where it is one
 abbrev pub array_at : List ℕ → Data → Option Items
 array_at key d = get key d >>? as_array
 
@@ -122,6 +125,7 @@ cells_from n no_members = Ok []
 cells_from n (member k d ms) =
     cell_of n k d >>= (λ c. cells_from (n + 1) ms >>= (λ cs. Ok (c ∷ cs)))
 
+-- the number of a table's members
 abbrev pub member_count : Members → ℕ
 member_count no_members = 0
 member_count (member k d ms) = 1 + member_count ms

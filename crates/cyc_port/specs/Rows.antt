@@ -7,6 +7,7 @@ use Rattle.cyc_port.specs.Counts.{raised}
 use Rattle.cyc_port.specs.Files.{Files}
 use Rattle.cyc_port.specs.declared.memory.NamedFile.{NamedFile}
 
+-- whether this is the file's name
 abbrev pub has_name : List ℕ → NamedFile → Bool
 has_name name file = bytes_eq name file.name
 

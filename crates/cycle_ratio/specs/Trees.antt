@@ -6,6 +6,7 @@ use Rattle.rule_system.specs.Walks.{IsCycle, IsKept}
 use Rattle.rule_system.specs.Weights.{Gains}
 use Rattle.first_cycle.specs.Numbers.{number_of}
 
+-- the rule that raised an event last, if one did
 abbrev pub parent_of : List (Option ℕ) → ℕ → Option ℕ
 parent_of parents event = get_or parents event None
 

@@ -16,7 +16,7 @@ use std::alloc::{AllocError, Global};
 /// The period of a system, and a cycle that attains it.
 #[derive(Debug, Drop)]
 pub struct Found {
-    /// Picoseconds for each token, in lowest terms.
+    /// Picoseconds a repetition, in lowest terms.
     pub period: Ratio,
     /// A cycle whose delay is the period times its offset.
     pub cycle: Cycle,

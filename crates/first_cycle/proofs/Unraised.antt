@@ -1,10 +1,9 @@
 -- Numbers that no kept rule raises: a kept cycle stays on one of them.
-use Rattle.std.proofs.Common.{◌≡◌, ℕ, ◌<◌, ◌≤◌, Bool, true, List, [], ◌∷◌, length, ap, sym, ◌∙◌, arith}
+use Rattle.std.proofs.Common.{◌≡◌, ℕ, ◌≤◌, Bool, List, [], ◌∷◌, ap, arith}
 use Rattle.rule_system.specs.declared.rules.Rule.{Rule}
 use Rattle.rule_system.specs.Rules.{source_of, target_of}
 use Rattle.rule_system.specs.FirstCycle.{start_of, kept_by}
 use Rattle.rule_system.specs.Walks.{IsWalk, IsCycle, IsKept}
-use Rattle.first_cycle.specs.Levels.{IsKeptWalk}
 use Rattle.first_cycle.specs.Numbers.{number_of, AreUnraised, StaysOnNumber}
 
 -- a kept walk does not raise them

@@ -1,5 +1,5 @@
 -- How many kept rules it takes from each event to one.
-use Rattle.std.specs.Prelude.{◌≡◌, ℕ, ◌+◌, ◌<◌, ◌≤◌, ◌⊎◌, ◌==◌, ◌&&◌, Bool, true, false, List, length, get_or, nat_lt, slice_set, if◌then◌else◌}
+use Rattle.std.specs.Prelude.{◌≡◌, ℕ, ◌+◌, ◌<◌, ◌≤◌, ◌⊎◌, ◌==◌, ◌&&◌, Bool, true, List, length, get_or, nat_lt, slice_set, if◌then◌else◌}
 use Rattle.rule_system.specs.declared.rules.Rule.{Rule}
 use Rattle.rule_system.specs.Rules.{source_of, target_of}
 use Rattle.rule_system.specs.Walks.{IsWalk, IsKept}
@@ -9,6 +9,7 @@ use Rattle.rule_system.specs.FirstCycle.{IsListBefore, kept_by}
 abbrev pub IsKeptWalk : List Rule → List Bool → ℕ → List ℕ → ℕ → Type 0
 IsKeptWalk rules keep a walk b = IsWalk rules a walk b × IsKept (kept_by keep) walk
 
+-- an event's level
 abbrev pub level_of : List ℕ → ℕ → ℕ
 level_of levels event = get_or levels event 0
 

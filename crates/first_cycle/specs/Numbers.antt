@@ -4,6 +4,7 @@ use Rattle.rule_system.specs.declared.rules.Rule.{Rule}
 use Rattle.rule_system.specs.Rules.{source_of, target_of}
 use Rattle.rule_system.specs.FirstCycle.{kept_by}
 
+-- an event's number
 abbrev pub number_of : List ℕ → ℕ → ℕ
 number_of numbers event = get_or numbers event 0
 

@@ -1,8 +1,7 @@
 -- The ticks of a netlist in blocks.
-use Rattle.std.proofs.Common.{◌≡◌, ℕ, ◌+◌, ◌-◌, ◌<◌, ◌≤◌, ◌≢◌, ◌==◌, ◌||◌, ◌&&◌, ◌⊎◌, inl, inr, not, List, [], ◌∷◌, ◌++◌, length, map, filter, find, get_or, set, drop, suc, zero, Bool, true, false, cond, nat_eq, nat_lt, Option, Some, None, is_some, Vec, refl, sym, ap, subst, ◌∙◌, arith, All, slice_get, if◌then◌else◌, append_assoc, length-append, drop-cons}
+use Rattle.std.proofs.Common.{◌≡◌, ℕ, ◌+◌, ◌-◌, ◌<◌, ◌≤◌, ◌≢◌, ◌==◌, ◌||◌, ◌&&◌, ◌⊎◌, inl, inr, not, List, [], ◌∷◌, ◌++◌, length, map, filter, get_or, set, drop, suc, zero, Bool, true, false, cond, nat_lt, Option, Some, None, is_some, Vec, refl, sym, ap, subst, ◌∙◌, arith, slice_get, if◌then◌else◌, append_assoc, length-append, drop-cons}
 use Rattle.std.specs.List.{list_any, flat_map}
 use Rattle.std.proofs.lemmas.Bool.Decides.{nat_tests}
-use Rattle.std.proofs.lemmas.Grind.{common_steps}
 use Rattle.std.proofs.lemmas.List.{append-nil, length-set, length_push, length-map, map-set, map-append}
 use Rattle.std.proofs.Math.Seq.{map-set_same}
 use Rattle.std.proofs.lemmas.Grind.{flat_map-append}

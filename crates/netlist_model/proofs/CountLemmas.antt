@@ -1,6 +1,5 @@
 -- The counts that the index tells.
 use Rattle.std.proofs.Common.{◌≡◌, ℕ, List, [], ◌∷◌, ◌++◌, filter, find, not, Bool, true, false, cond, Option, Some, None, is_some, option_map, refl, sym, ap, subst, ◌∙◌, if◌then◌else◌, arith}
-use Rattle.std.specs.List.{list_any}
 use Rattle.std.proofs.lemmas.Bool.Decides.{nat_tests}
 use Rattle.netlist_model.specs.Blocks.{pair_eq, TellsCounts}
 use Rattle.cell_arcs.specs.Steps.{or_else}

@@ -1,5 +1,5 @@
 -- Walks to the first net that none drives, and to the first tick of the blocks that passes a test.
-use Rattle.std.proofs.Common.{◌≡◌, ℕ, ◌+◌, ◌-◌, ◌<◌, ◌≤◌, List, [], ◌∷◌, ◌++◌, length, map, get_or, drop, suc, zero, Bool, true, false, Option, Some, None, option_map, is_none, position, refl, sym, ap, ◌∙◌, arith, if◌then◌else◌, drop-cons, length-append}
+use Rattle.std.proofs.Common.{◌≡◌, ℕ, ◌+◌, ◌<◌, ◌≤◌, List, [], ◌∷◌, ◌++◌, length, get_or, drop, suc, Bool, true, false, Option, Some, None, option_map, is_none, position, refl, sym, ap, ◌∙◌, arith, if◌then◌else◌, drop-cons, length-append}
 use Rattle.std.proofs.lemmas.List.{get_or-map, length-map}
 use Rattle.std.proofs.Math.ListN.{drop_of_length-le}
 use Rattle.cell_arcs.specs.Steps.{or_else}

@@ -1,19 +1,17 @@
 -- Instances that are added or given delays of their own.
-use Rattle.std.proofs.Common.{◌≡◌, ℕ, ◌+◌, ◌<◌, ◌≤◌, ◌++◌, ◌∷◌, [], ◌⊎◌, inl, inr, List, length, map, get_or, set, Bool, true, Option, Some, None, refl, sym, ap, subst, ◌∙◌, arith, All, slice_get, position}
+use Rattle.std.proofs.Common.{◌≡◌, ℕ, ◌<◌, ◌≤◌, ◌++◌, ◌∷◌, [], inl, inr, List, length, map, get_or, set, true, Option, Some, None, refl, sym, ap, subst, ◌∙◌, arith, All, slice_get}
 use Rattle.std.specs.List.{IsDistinct}
 use Rattle.std.specs.Str.{bytes_eq}
 use Rattle.std.proofs.Math.Seq.{map-set_same}
-use Rattle.std.proofs.lemmas.List.{length-set, length_push, length-map}
+use Rattle.std.proofs.lemmas.List.{length-set}
 use Rattle.std.proofs.lemmas.List.Elements.{All-push, All-set, All-map}
-use Rattle.std.proofs.lemmas.Option.{slice_get_within, get_or_from_slice_get, slice_get-get_or}
+use Rattle.std.proofs.lemmas.Option.{slice_get_within, get_or_from_slice_get}
 use Rattle.cyc_text.specs.Name.{is_name}
 use Rattle.cell_arcs.specs.declared.cells.Cell.{Cell}
 use Rattle.cell_arcs.specs.declared.cells.CellArc.{CellArc}
-use Rattle.cell_arcs.specs.Steps.{or_else}
 use Rattle.netlist_model.specs.Circuit.{Circuit, last_of, drives, driver_of, is_net}
-use Rattle.netlist_model.specs.Sound.{IsPin, IsInstance, IsOwnDelay, HasOutput, IsNetlist, IsOfLibrary, FitsCell, Fits}
+use Rattle.netlist_model.specs.Sound.{IsPin, IsInstance, IsOwnDelay, IsNetlist, IsOfLibrary, FitsCell, Fits}
 use Rattle.netlist_model.specs.Statements.{cell_at, with_delay}
-use Rattle.netlist_model.specs.declared.parts.Delay.{Delay}
 use Rattle.netlist_model.specs.declared.parts.Instance.{Instance}
 use Rattle.netlist_model.specs.declared.parts.NetRef.{NetRef}
 use Rattle.netlist_model.specs.declared.parts.NetRef.TheVariants.{Net}

@@ -1,23 +1,22 @@
 -- The rules of arcs and instances, counted and sought without their list.
-use Rattle.std.proofs.Common.{◌≡◌, ◌≢◌, ℕ, ◌+◌, ◌*◌, ◌/◌, ◌%◌, ◌<◌, ◌≤◌, ◌==◌, ◌||◌, ◌&&◌, not, List, [], ◌∷◌, ◌++◌, length, map, get_or, suc, zero, Bool, true, false, nat_eq, eqb, Option, Some, None, option_map, option_and_then, position, refl, sym, ap, subst, ◌∙◌, arith, All, slice_get, length-append, if◌then◌else◌}
-use Rattle.std.specs.List.{list_any, sum_by, flat_map, IsDistinct}
+use Rattle.std.proofs.Common.{◌≡◌, ◌≢◌, ℕ, ◌+◌, ◌*◌, ◌/◌, ◌%◌, ◌<◌, ◌≤◌, ◌==◌, ◌||◌, ◌&&◌, not, List, [], ◌∷◌, length, map, get_or, suc, zero, Bool, true, false, nat_eq, eqb, Option, Some, None, option_map, option_and_then, position, refl, sym, ap, subst, ◌∙◌, arith, All, slice_get, length-append, if◌then◌else◌}
+use Rattle.std.specs.List.{list_any, sum_by, flat_map}
 use Rattle.std.specs.Option.{option_map_or}
 use Rattle.std.proofs.lemmas.Bool.Decides.{nat_tests}
 use Rattle.std.proofs.lemmas.List.Folds.{list_any-append}
 use Rattle.std.proofs.lemmas.List.Sums.{sum_by-cons}
-use Rattle.std.proofs.lemmas.List.Concat.{length-flat_map}
 use Rattle.std.proofs.lemmas.List.{length-map, get_or-map}
 use Rattle.std.proofs.lemmas.Map.Steps.{length-le_from_distinct_below}
 use Rattle.std.proofs.lemmas.Map.Keys.{IsDistinct-from_apart}
 use Rattle.std.proofs.lemmas.Option.{get_or_from_slice_get, slice_get_within}
-use Rattle.cell_arcs.specs.IsLibrary.{IsCell, IsArc, AreArcs}
+use Rattle.cell_arcs.specs.IsLibrary.{IsCell, IsArc}
 use Rattle.cell_arcs.specs.declared.cells.Cell.{Cell}
 use Rattle.cell_arcs.specs.declared.cells.CellArc.{CellArc}
 use Rattle.cell_arcs.specs.declared.cells.Sense.{Sense}
 use Rattle.cell_arcs.specs.declared.cells.Sense.TheVariants.{Pos, Neg, Non}
 use Rattle.netlist_model.specs.ArcRules.{sense_count, source_count, arc_count, inst_count, insts_count, leads, source_joins, arc_joins, inst_joins, is_unjoined, HaveOneDriver}
 use Rattle.netlist_model.specs.Circuit.{Circuit, last_of, drives, driver_of, is_between, is_net}
-use Rattle.netlist_model.specs.Expansion.{Rule, rules_by, rules_of_arc, rules_of_arcs, rules_of_inst, rules_of, delay_of}
+use Rattle.netlist_model.specs.Expansion.{rules_by, rules_of_arc, rules_of_arcs, rules_of_inst, rules_of, delay_of}
 use Rattle.netlist_model.specs.Sound.{IsPin, HasOutput, IsInstance, IsNetlist}
 use Rattle.netlist_model.specs.Whole.{is_idle}
 use Rattle.netlist_model.specs.declared.parts.Delay.{Delay}

@@ -1,5 +1,5 @@
 -- What holds of every netlist is kept by each statement.
-use Rattle.std.proofs.Common.{◌≡◌, ℕ, ◌+◌, ◌*◌, ◌<◌, ◌≤◌, ◌==◌, ◌||◌, ◌&&◌, not, List, [], ◌∷◌, ◌++◌, length, map, filter, find, get_or, suc, zero, ◌⊎◌, inl, inr, Bool, true, false, nat_eq, nat_le, Option, Some, None, is_some, option_map, position, refl, sym, ap, subst, ◌∙◌, arith, All, IfSome, slice_get, if◌then◌else◌}
+use Rattle.std.proofs.Common.{◌≡◌, ℕ, ◌*◌, ◌<◌, ◌≤◌, ◌==◌, ◌&&◌, not, List, [], ◌∷◌, ◌++◌, length, map, filter, find, get_or, suc, zero, ◌⊎◌, inl, inr, Bool, true, false, nat_eq, nat_le, Option, Some, None, is_some, option_map, position, refl, sym, ap, subst, ◌∙◌, arith, All, IfSome, slice_get, if◌then◌else◌}
 use Rattle.std.specs.List.{IsDistinct, list_any, AllByRecursion}
 use Rattle.std.proofs.lemmas.Bool.Decides.{nat_tests}
 use Rattle.std.specs.Str.{bytes_eq}
@@ -11,8 +11,8 @@ use Rattle.std.proofs.lemmas.List.Folds.{list_any-append, list_any_at}
 use Rattle.std.proofs.lemmas.Map.Keys.{IsDistinct-push}
 use Rattle.cyc_text.specs.Name.{is_name}
 use Rattle.cell_arcs.specs.Steps.{or_else}
-use Rattle.netlist_model.specs.Circuit.{Circuit, place_of, ref_of, is_between, drives, driver_of, last_of, roots_of, kinds_after, tick_of}
-use Rattle.netlist_model.specs.Sound.{AreNames, IsPin, IsInstance, IsTick, IsFork, IsNetlist, Fits}
+use Rattle.netlist_model.specs.Circuit.{Circuit, nothing, place_of, ref_of, is_between, drives, driver_of, last_of, roots_of, kinds_after, tick_of}
+use Rattle.netlist_model.specs.Sound.{IsPin, IsInstance, IsTick, IsFork, IsNetlist}
 use Rattle.netlist_model.specs.Statements.{is_ref}
 use Rattle.netlist_model.specs.declared.parts.Fork.{Fork}
 use Rattle.netlist_model.specs.declared.parts.Instance.{Instance}
@@ -24,9 +24,9 @@ use Rattle.netlist_model.proofs.Tables.{roots_push}
 use Rattle.netlist_model.proofs.Places.{none_passes, list_any-map, position_push}
 
 -- the netlist with nothing in it
-pub nothing : IsNetlist (record { nets = []; consts = []; insts = []; ticks = []; forks = []; root = None })
+pub nothing_is_netlist : IsNetlist nothing
 unfolding IsDistinct kinds_after
-nothing = record {
+nothing_is_netlist = record {
   net_names = λ k d h. absurd (omega arith);
   const_names = λ k d h. absurd (omega arith);
   nets_differ = tt;

@@ -1,23 +1,19 @@
 -- The tables beside a list of instances or forks.
-use Rattle.std.proofs.Common.{◌≡◌, ℕ, ◌+◌, ◌<◌, ◌≤◌, List, [], ◌∷◌, ◌++◌, length, map, get_or, set, Result, Ok, Err, ◌==◌, Bool, true, false, cond, eqb, nat_eq, Option, Some, None, Vec, Global, position, refl, sym, ap, subst, ◌∙◌, arith, if◌then◌else◌, slice_get}
-use Rattle.std.specs.List.{list_any, position_or_len}
+use Rattle.std.proofs.Common.{◌≡◌, ℕ, List, [], ◌∷◌, ◌++◌, length, map, get_or, set, Result, Ok, Err, ◌==◌, Bool, true, false, cond, nat_eq, Option, Some, None, Vec, Global, position, refl, sym, ap, subst, ◌∙◌, arith, if◌then◌else◌}
+use Rattle.std.specs.List.{list_any}
 use Rattle.std.specs.Str.{bytes_eq}
-use Rattle.std.proofs.lemmas.List.{length-map, map-append, length-set}
+use Rattle.std.proofs.lemmas.List.{map-append, length-set}
 use Rattle.std.proofs.lemmas.List.Folds.{position_or_len-set}
 use Rattle.std.proofs.lemmas.Bool.Decides.{nat_tests}
-use Rattle.std.proofs.lemmas.Grind.{common_steps}
 use Rattle.std.specs.Result.{OnOk, OnErr, IsOk}
 use Rattle.cell_arcs.specs.Steps.{or_else}
-use Rattle.netlist_model.specs.Circuit.{place_of, inst_of, driver_of, drives, last_of, is_net, kinds_after, roots_of}
+use Rattle.netlist_model.specs.Circuit.{place_of, driver_of, drives, last_of, is_net, kinds_after, roots_of}
 use Rattle.netlist_model.specs.declared.parts.Fork.{Fork}
 use Rattle.netlist_model.specs.declared.parts.Instance.{Instance}
 use Rattle.netlist_model.specs.declared.parts.NetRef.TheVariants.{Net}
 use Rattle.netlist_model.proofs.Places.{position-map, position_push, none_passes, list_any-map}
 use Rattle.indexmap.specs.IndexSet.{insert_key}
 use Rattle.std.proofs.Math.Seq.{map-set_same}
-use Rattle.std.proofs.lemmas.Option.{get_or_from_slice_get}
-use Rattle.netlist_model.specs.Statements.{with_delay}
-use Rattle.netlist_model.specs.declared.parts.Delay.{Delay}
 
 -- the place among the keys is the place among what they name
 pub place_named : {A : Type 0} (f : A → List ℕ) (xs : List A) (keys : List (Vec ℕ Global)) (name : List ℕ) → map (λ v. v.items) keys ≡ map f xs → place_of name (map (λ v. v.items) keys) ≡ position (λ x. bytes_eq name (f x)) xs

@@ -4,6 +4,7 @@ use Rattle.std.specs.List.{list_any}
 use Rattle.netlist_model.specs.Circuit.{is_between, tick_of}
 use Rattle.netlist_model.specs.declared.parts.Tick.{Tick}
 
+-- whether two pairs of events are the same
 abbrev pub pair_eq : (ℕ × ℕ) → (ℕ × ℕ) → Bool
 pair_eq a b = (a.0 == b.0) && (a.1 == b.1)
 

@@ -1,5 +1,5 @@
 -- A netlist as lists, and look-ups by name in it.
-use Rattle.std.specs.Prelude.{ℕ, ◌+◌, ◌*◌, ◌++◌, ◌==◌, ◌&&◌, Bool, true, false, if◌then◌else◌, List, [], ◌∷◌, Option, Some, None, option_map, position, find, map}
+use Rattle.std.specs.Prelude.{ℕ, ◌+◌, ◌*◌, ◌++◌, ◌==◌, ◌&&◌, Bool, false, if◌then◌else◌, List, [], ◌∷◌, Option, Some, None, option_map, position, find, map}
 use Rattle.std.specs.List.{list_any}
 use Rattle.std.specs.Str.{bytes_eq}
 use Rattle.cell_arcs.specs.Steps.{or_else}
@@ -18,6 +18,10 @@ pub record Circuit : Type 0 where
   pub ticks : List Tick
   pub forks : List Fork
   pub root : Option ℕ
+
+-- a netlist with nothing in it
+abbrev pub nothing : Circuit
+nothing = record { nets = []; consts = []; insts = []; ticks = []; forks = []; root = None }
 
 -- the place of a name in a list of names
 abbrev pub place_of : List ℕ → List (List ℕ) → Option ℕ

@@ -16,12 +16,12 @@ use Rattle.netlist_model.specs.declared.parts.Instance.{Instance}
 use Rattle.netlist_model.specs.declared.parts.NetRef.{NetRef}
 use Rattle.netlist_model.specs.declared.parts.NetRef.TheVariants.{Net, Const}
 use Rattle.netlist_model.specs.declared.parts.PinNet.{PinNet}
-use Rattle.netlist_model.specs.declared.parts.Tick.{Tick}
 
 -- the rest, unless this fault's cause holds
 abbrev pub unless : {A : Type 0} → Bool → StatementFault → Result A StatementFault → Result A StatementFault
 unless cause e r = if cause then Err e else r
 
+-- whether a net with events or a constant has the name
 abbrev pub is_ref : Circuit → List ℕ → Bool
 is_ref c name = is_some (ref_of c.nets c.consts name)
 

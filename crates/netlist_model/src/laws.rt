@@ -1,7 +1,7 @@
 //! What each edit keeps, by the definitions. A law is the contract of a function that does nothing: a call makes it known where it stands.
-ghost use Rattle.std.specs.Prelude.{◌≡◌, ◌≢◌, List, [], None, Ok, Err};
+ghost use Rattle.std.specs.Prelude.{◌≡◌, ◌≢◌, List, Ok, Err};
 ghost use Rattle.cell_arcs.specs.declared.cells.Cell.{Cell};
-ghost use Rattle.netlist_model.specs.Circuit.{Circuit};
+ghost use Rattle.netlist_model.specs.Circuit.{Circuit, nothing};
 ghost use Rattle.netlist_model.specs.Edits.{made};
 ghost use Rattle.netlist_model.specs.Sound.{Fits, IsNetlist};
 ghost use Rattle.netlist_model.specs.declared.edits.Edit.{Edit};
@@ -10,7 +10,7 @@ ghost use Rattle.netlist_model.specs.declared.faults.StatementFault.TheVariants.
 /// Nothing is a netlist; an edit makes a netlist of a netlist, and one that fits the library of one that does; no edit is
 /// refused for want of memory.
 pub fn edits_keep_netlists()
-    ensures nothing { IsNetlist (record { nets = []; consts = []; insts = []; ticks = []; forks = []; root = None }) }
+    ensures nothing { IsNetlist nothing }
     ensures netlist { (library : List Cell) (c changed : Circuit) (edit : Edit) →
         IsNetlist c → made library c edit ≡ Ok changed → IsNetlist changed }
     ensures fits { (library : List Cell) (c changed : Circuit) (edit : Edit) →

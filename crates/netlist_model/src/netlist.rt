@@ -4,7 +4,7 @@ ghost use Rattle.cell_arcs.specs.Steps.{or_fault};
 ghost use Rattle.cell_arcs.specs.declared.cells.Cell.{Cell};
 ghost use Rattle.std.specs.Str.{bytes_eq};
 ghost use Rattle.cyc_text.specs.Name as names;
-ghost use Rattle.netlist_model.specs.Circuit.{driver_of, event_at, event_of, fork_of, last_of, place_of};
+ghost use Rattle.netlist_model.specs.Circuit.{driver_of, event_at, event_of, fork_of, last_of, nothing, place_of};
 ghost use Rattle.netlist_model.specs.EventNames as event_names;
 ghost use Rattle.netlist_model.specs.Expansion.{offset_of, rules_of};
 ghost use Rattle.netlist_model.specs.Sound.{Fits, FitsCell, IsInstance, IsNetlist};
@@ -69,7 +69,7 @@ impl Model for Netlist {
 impl Netlist {
     /// The netlist with nothing in it.
     pub fn empty(alloc: Global) -> Result<Netlist, AllocError>
-        ensures { IfOk result (λ n. n ≡ record { nets = []; consts = []; insts = []; ticks = []; forks = []; root = None }) }
+        ensures { IfOk result (λ n. n ≡ nothing) }
     {
         Ok(Netlist {
             alloc,

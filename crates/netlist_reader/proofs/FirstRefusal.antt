@@ -4,9 +4,9 @@ use Rattle.std.specs.Prelude.{Result, Ok, Err}
 use Rattle.std.specs.Str.Lines.{lines}
 use Rattle.cyc_text.specs.Words.{words_of}
 use Rattle.cell_arcs.specs.declared.cells.Cell.{Cell}
-use Rattle.netlist_model.specs.Circuit.{Circuit}
+use Rattle.netlist_model.specs.Circuit.{Circuit, nothing}
 use Rattle.cell_arcs.specs.Steps.{◌>>=◌}
-use Rattle.netlist_reader.specs.NetlistFiles.{nothing, after_words, after_lines}
+use Rattle.netlist_reader.specs.NetlistFiles.{after_words, after_lines}
 use Rattle.netlist_reader.specs.RefusedLines.{IsRefusedLine, FirstLineRefuses}
 use Rattle.netlist_reader.specs.declared.faults.NetFault.{NetFault}
 

@@ -6,11 +6,11 @@ use Rattle.std.proofs.lemmas.Bool.Decides.{nat_tests}
 use Rattle.std.proofs.lemmas.List.Elements.{All-nil, All-cons}
 use Rattle.cyc_text.specs.ReadBack.{IsWord, IsLine, WordsReadBack, LinesReadBack}
 use Rattle.cell_arcs.specs.declared.cells.Cell.{Cell}
-use Rattle.netlist_model.specs.Circuit.{Circuit}
+use Rattle.netlist_model.specs.Circuit.{Circuit, nothing}
 use Rattle.netlist_model.specs.declared.edits.Edit.{Edit}
 use Rattle.netlist_reader.specs.Canonical.{lines_text}
 use Rattle.netlist_reader.specs.EditLines.{edit_of}
-use Rattle.netlist_reader.specs.NetlistFiles.{after_words, after_lines, stated, nothing, netlist_of}
+use Rattle.netlist_reader.specs.NetlistFiles.{after_words, after_lines, stated, netlist_of}
 use Rattle.netlist_reader.proofs.Bytes.{EachSolid, solid_word, solid_line}
 
 -- a line's statement makes the one netlist the other

@@ -4,10 +4,9 @@ use Rattle.std.specs.List.{flat_map}
 use Rattle.cyc_text.specs.ReadBack.{WordsReadBack, LinesReadBack}
 use Rattle.cell_arcs.specs.IsLibrary.{IsLibrary}
 use Rattle.cell_arcs.specs.declared.cells.Cell.{Cell}
-use Rattle.netlist_model.specs.Circuit.{Circuit}
+use Rattle.netlist_model.specs.Circuit.{Circuit, nothing}
 use Rattle.netlist_model.specs.Sound.{Fits, IsNetlist}
 use Rattle.netlist_reader.specs.Canonical.{net_line, const_line, inst_line, delay_lines, tick_line, root_lines, fork_line, canonical_lines, canonical_text}
-use Rattle.netlist_reader.specs.NetlistFiles.{nothing}
 use Rattle.netlist_reader.specs.ReadBack.{NetlistsReadBack}
 use Rattle.netlist_reader.proofs.Instances.{bare, insts_lead}
 use Rattle.netlist_reader.proofs.Leads.{Leads, leads_append, leads_read}

@@ -4,7 +4,7 @@ use Rattle.std.specs.Prelude.{Result, Ok, Err}
 use Rattle.std.specs.Str.Lines.{lines}
 use Rattle.cyc_text.specs.Words.{words_of}
 use Rattle.cell_arcs.specs.declared.cells.Cell.{Cell}
-use Rattle.netlist_model.specs.Circuit.{Circuit, event_of}
+use Rattle.netlist_model.specs.Circuit.{Circuit, event_of, nothing}
 use Rattle.netlist_model.specs.Edits.{made}
 use Rattle.netlist_model.specs.Statements.{set_root}
 use Rattle.netlist_model.specs.declared.edits.Edit.{Edit}
@@ -15,7 +15,7 @@ use Rattle.netlist_model.specs.declared.faults.StatementFault.TheVariants as sta
 use Rattle.netlist_model.specs.declared.parts.EventName.{EventName}
 use Rattle.netlist_reader.specs.EditLines.{edit_of}
 use Rattle.cell_arcs.specs.Steps.{◌>>=◌}
-use Rattle.netlist_reader.specs.NetlistFiles.{nothing, stated, at_line, after_edit, after_words, after_lines, netlist_of}
+use Rattle.netlist_reader.specs.NetlistFiles.{stated, at_line, after_edit, after_words, after_lines, netlist_of}
 use Rattle.netlist_reader.specs.declared.faults.NetFault.{NetFault}
 use Rattle.netlist_reader.specs.declared.faults.NetFault.TheVariants.{Syntax, Statement, Memory}
 

@@ -41,6 +41,7 @@ const_line name = codes "const" ∷ name ∷ []
 unfoldable pub inst_line_of : Circuit → Instance → Cell → List (List ℕ)
 inst_line_of c i k = codes "inst" ∷ i.name ∷ k.name ∷ pin_names c.nets c.consts (k.inputs ++ k.output ∷ []) i.pins
 
+-- the words of an instance's line, by its cell in the library
 abbrev pub inst_line : List Cell → Circuit → Instance → List (List ℕ)
 inst_line library c i = option_map_or (inst_line_of c i) (slice_get library i.cell) []
 
@@ -59,6 +60,7 @@ delay_lines_of inst inputs [] delays = []
 delay_lines_of inst inputs (arc ∷ arcs) [] = []
 delay_lines_of inst inputs (arc ∷ arcs) (d ∷ delays) = arc_lines inst inputs arc d ++ delay_lines_of inst inputs arcs delays
 
+-- the words of the lines of an instance's own delays, by its cell in the library
 abbrev pub delay_lines : List Cell → Instance → List (List (List ℕ))
 delay_lines library i = option_map_or (λ k. delay_lines_of i.name k.inputs k.arcs i.delays) (slice_get library i.cell) []
 

@@ -7,6 +7,7 @@ use Rattle.netlist_model.specs.declared.edits.Edit.TheVariants.{Net, Const, Inst
 use Rattle.netlist_model.specs.declared.parts.EventName.{EventName}
 use Rattle.netlist_model.specs.declared.parts.PinNet.{PinNet}
 
+-- an '='
 abbrev pub is_equals : ℕ → Bool
 is_equals b = b == 61
 

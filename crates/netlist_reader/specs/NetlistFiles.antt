@@ -4,7 +4,7 @@ use Rattle.std.specs.Str.Lines.{lines}
 use Rattle.cyc_text.specs.Words.{words_of}
 use Rattle.cell_arcs.specs.declared.cells.Cell.{Cell}
 use Rattle.cell_arcs.specs.Steps.{◌>>=◌}
-use Rattle.netlist_model.specs.Circuit.{Circuit}
+use Rattle.netlist_model.specs.Circuit.{Circuit, nothing}
 use Rattle.netlist_model.specs.Edits.{made}
 use Rattle.netlist_model.specs.Statements.{set_root}
 use Rattle.netlist_model.specs.declared.edits.Edit.{Edit}
@@ -13,10 +13,6 @@ use Rattle.netlist_model.specs.declared.faults.StatementFault.{StatementFault}
 use Rattle.netlist_reader.specs.EditLines.{edit_of}
 use Rattle.netlist_reader.specs.declared.faults.NetFault.{NetFault}
 use Rattle.netlist_reader.specs.declared.faults.NetFault.TheVariants.{Syntax, Statement}
-
--- a netlist with nothing in it
-abbrev pub nothing : Circuit
-nothing = record { nets = []; consts = []; insts = []; ticks = []; forks = []; root = None }
 
 -- the netlist after a file's statement, or why it is refused: as an edit, but a file has one root alone
 abbrev pub stated : List Cell → Circuit → Edit → Result Circuit StatementFault

@@ -3,8 +3,8 @@ use Rattle.std.specs.Prelude.{◌≡◌, ◌+◌, ℕ, List, ◌∷◌, ◌++◌
 use Rattle.std.specs.Str.Lines.{lines}
 use Rattle.cyc_text.specs.Words.{words_of}
 use Rattle.cell_arcs.specs.declared.cells.Cell.{Cell}
-use Rattle.netlist_model.specs.Circuit.{Circuit}
-use Rattle.netlist_reader.specs.NetlistFiles.{nothing, after_words, after_lines, netlist_of}
+use Rattle.netlist_model.specs.Circuit.{Circuit, nothing}
+use Rattle.netlist_reader.specs.NetlistFiles.{after_words, after_lines, netlist_of}
 use Rattle.netlist_reader.specs.declared.faults.NetFault.{NetFault}
 
 -- one of the lines is refused, and those before it are not

@@ -26,7 +26,7 @@ pub fn written_netlists_are_read_back()
     lines_are_read_back();
 }
 
-/// Whatever file is accepted gives a netlist, which fits the library, and no refusal is want of memory.
+/// Whatever file is accepted gives a netlist, which fits the library, and no refusal is, or tells, a want of memory.
 pub fn netlists_are_sound()
     ensures accepted { (library : List Cell) (bytes : List ℕ) (c : Circuit) → netlist_of library bytes ≡ Ok c → IsNetlist c }
     ensures fits { (library : List Cell) (bytes : List ℕ) (c : Circuit) → netlist_of library bytes ≡ Ok c → Fits library c.insts }

@@ -5,6 +5,7 @@ use Rattle.rule_system.specs.declared.rules.Rule.{Rule}
 use Rattle.rule_system.specs.Walks.{IsWalk, IsPath, events_of}
 use Rattle.rule_system.specs.Weights.{weight, time_of}
 
+-- the flags say that the event is reached
 abbrev pub IsReached : List Bool → ℕ → Type 0
 IsReached reached event = slice_index_or reached event false ≡ true
 

@@ -181,7 +181,7 @@ fn push_report(
 
 /// The report of an analysis: `period P/k`; `cycle LENGTH DELAY OFFSET` with the sums over the critical cycle; for each of
 /// its rules, in order, `step I SOURCE TARGET DELAY OFFSET`; for each event, in order, `arrival EVENT V/k`; for each fork,
-/// in order, `fork NAME V/k met` or `fork NAME V/k missed`; `end`. P is in picoseconds a repetition for each token, and V
+/// in order, `fork NAME V/k met` or `fork NAME V/k missed`; `end`. P is in picoseconds a repetition, and V
 /// in picoseconds, both scaled by k. V/k is not reduced.
 ///
 /// The system has two events for each net with events, and the analysis is right for it, with as many forks as the netlist

@@ -1,4 +1,4 @@
-use Rattle.std.proofs.Common.{ℕ, ◌<◌, All}
+use Rattle.std.proofs.Common.{◌<◌, All}
 use Rattle.first_cycle.specs.Levels.{AreFound}
 use Rattle.first_cycle.proofs.levels.found_levels.Given as goal
 

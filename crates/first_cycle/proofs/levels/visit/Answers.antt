@@ -1,4 +1,4 @@
-use Rattle.std.proofs.Common.{◌<◌, ℕ, get_or}
+use Rattle.std.proofs.Common.{◌<◌, ℕ}
 use Rattle.std.proofs.lemmas.List.Elements.{All-push}
 use Rattle.first_cycle.proofs.Lists.{rule_into}
 use Rattle.first_cycle.proofs.levels.visit.Goals.{then-lower_along+in_ok-push, else-lower_along}

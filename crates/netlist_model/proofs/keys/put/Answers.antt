@@ -1,4 +1,4 @@
-use Rattle.std.proofs.Common.{Vec, Global, ap, map, ◌∙◌}
+use Rattle.std.proofs.Common.{ap, map, ◌∙◌}
 use Rattle.std.proofs.lemmas.Result.{on_ok_weaker}
 use Rattle.netlist_model.proofs.Tables.{insert_new}
 use Rattle.netlist_model.proofs.keys.put.Goals as goal

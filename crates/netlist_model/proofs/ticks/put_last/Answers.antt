@@ -1,4 +1,4 @@
-use Rattle.std.proofs.Common.{◌≡◌, ◌+◌, ◌<◌, ◌≤◌, ◌∙◌, length, sym, ap, subst, refl, rules, arith, inl}
+use Rattle.std.proofs.Common.{◌≡◌, ◌≤◌, length, sym, subst, refl, rules, arith, inl}
 use Rattle.std.proofs.lemmas.Grind.{common_steps}
 use Rattle.netlist_model.specs.Blocks.{Grown}
 use Rattle.netlist_model.proofs.BlockLemmas.{lists, put_in, same_in, grown_push}

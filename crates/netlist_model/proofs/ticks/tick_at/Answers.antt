@@ -1,5 +1,5 @@
-use Rattle.std.proofs.Common.{◌≡◌, ◌<◌, ◌≤◌, ◌∙◌, ap, length, rules, arith, slice_get, drop, ◌+◌, ◌-◌}
-use Rattle.netlist_model.proofs.BlockLemmas.{found_in, goes_on, flat, lists}
+use Rattle.std.proofs.Common.{◌≡◌, ◌<◌, ◌≤◌, length, rules}
+use Rattle.netlist_model.proofs.BlockLemmas.{found_in, goes_on}
 use Rattle.netlist_model.proofs.ticks.tick_at.Goals as goal
 
 pub returns-then-left-len : goal.returns-then-left-len

@@ -1,6 +1,5 @@
-use Rattle.std.proofs.Common.{◌≡◌, ◌≤◌, ◌<◌, ◌+◌, length, position, Some, None, sym, ap, ◌∙◌, arith, rules}
+use Rattle.std.proofs.Common.{◌≡◌, length, position, sym, ap, ◌∙◌, arith, rules}
 use Rattle.netlist_model.specs.ArcRules.{is_unjoined}
-use Rattle.netlist_model.proofs.BlockLemmas.{flat, lists}
 use Rattle.netlist_model.proofs.FirstLemmas.{block_within, walk_ends, walk_goes_on}
 use Rattle.netlist_model.proofs.whole.first_idle.Goals as goal
 

@@ -1,4 +1,4 @@
-use Rattle.std.proofs.Common.{◌≡◌, ◌∙◌, Some, get_or, length, not, subst, sym, ap, refl}
+use Rattle.std.proofs.Common.{◌≡◌, ◌∙◌, get_or, length, not, subst, sym, ap, refl}
 use Rattle.std.proofs.lemmas.Option.{slice_get_read}
 use Rattle.netlist_model.specs.Sound.{IsOfLibrary}
 use Rattle.netlist_model.proofs.whole.is_unjoined.Goals as goal

@@ -1,8 +1,7 @@
 use Rattle.std.proofs.Common.{arith}
 use Rattle.std.specs.Str.Lines.{lines}
-use Rattle.netlist_model.specs.Circuit.{Circuit}
+use Rattle.netlist_model.specs.Circuit.{Circuit, nothing}
 use Rattle.netlist_model.specs.Sound.{Fits, IsNetlist}
-use Rattle.netlist_reader.specs.NetlistFiles.{nothing}
 use Rattle.netlist_reader.proofs.SoundFiles.{after_lines_keeps, never_memory, never_statement}
 use Rattle.netlist_reader.proofs.laws.netlists_are_sound.Goals as goal
 

@@ -1,4 +1,4 @@
-use Rattle.std.proofs.Common.{length, refl, arith}
+use Rattle.std.proofs.Common.{arith}
 use Rattle.std.proofs.lemmas.Option.{slice_get-get_or}
 use Rattle.netlist_reader.specs.Canonical as spec
 use Rattle.netlist_reader.proofs.Texts.{line_written, all_written}

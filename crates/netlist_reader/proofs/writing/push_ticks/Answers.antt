@@ -1,4 +1,4 @@
-use Rattle.std.proofs.Common.{◌≡◌, ◌++◌, ◌∙◌, ap, length, map, refl, sym, subst, arith, List, ℕ}
+use Rattle.std.proofs.Common.{◌++◌, ◌∙◌, ap, length, map, refl, arith, List, ℕ}
 use Rattle.std.proofs.lemmas.Option.{slice_get_read}
 use Rattle.netlist_model.specs.Sound.{IsTick}
 use Rattle.netlist_reader.specs.Canonical as spec

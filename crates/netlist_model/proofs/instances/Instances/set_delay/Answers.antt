@@ -1,4 +1,4 @@
-use Rattle.std.proofs.Common.{◌≡◌, refl, ap, sym, ◌∙◌, get_or}
+use Rattle.std.proofs.Common.{◌≡◌, refl, ap, ◌∙◌, get_or}
 use Rattle.std.proofs.lemmas.Option.{get_or_from_slice_get}
 use Rattle.netlist_model.specs.declared.parts.Instance.{Instance}
 use Rattle.netlist_model.proofs.Places.{stands}

@@ -1,9 +1,8 @@
-use Rattle.std.proofs.Common.{◌≡◌, ◌+◌, Option, Some, None, option_map, position, subst, sym, ap, refl, ◌∙◌}
+use Rattle.std.proofs.Common.{◌+◌, option_map, position, subst, sym, ap, ◌∙◌}
 use Rattle.netlist_model.specs.ArcRules.{is_unjoined}
 use Rattle.netlist_model.specs.Circuit.{Circuit}
 use Rattle.netlist_model.specs.Sound.{Fits}
-use Rattle.netlist_model.specs.Whole.{idle_of, idle_fault}
-use Rattle.netlist_model.specs.declared.faults.WholeFault.{WholeFault}
+use Rattle.netlist_model.specs.Whole.{idle_of}
 use Rattle.netlist_model.specs.declared.faults.WholeFault.TheVariants.{IdleTick}
 use Rattle.netlist_model.proofs.RuleLemmas.{idle_is}
 use Rattle.netlist_model.proofs.netlist.Netlist.check_ticks.Goals as goal

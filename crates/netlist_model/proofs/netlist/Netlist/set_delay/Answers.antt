@@ -1,7 +1,6 @@
-use Rattle.std.proofs.Common.{◌≡◌, ◌≤◌, List, subst, sym, ap, ◌∙◌, arith}
+use Rattle.std.proofs.Common.{◌≤◌, subst, sym, ap, ◌∙◌, arith}
 use Rattle.netlist_model.specs.Circuit.{Circuit}
 use Rattle.netlist_model.specs.Sound.{Fits}
-use Rattle.netlist_model.specs.declared.parts.Instance.{Instance}
 use Rattle.netlist_model.proofs.InstanceLemmas.{arc_within, delay_set, fits_delay}
 use Rattle.netlist_model.proofs.netlist.Netlist.set_delay.Goals as goal
 

@@ -1,4 +1,4 @@
-use Rattle.std.proofs.Common.{◌≡◌, ◌<◌, ◌*◌, ◌≤◌, ℕ, length, false, is_some, subst, sym, ap, ◌∙◌, arith}
+use Rattle.std.proofs.Common.{◌≡◌, ◌<◌, ◌*◌, length, false, is_some, subst, sym, ap, arith}
 use Rattle.netlist_model.specs.Circuit.{Circuit, tick_of}
 use Rattle.netlist_model.specs.Sound.{Fits}
 use Rattle.netlist_model.proofs.Soundness.{tick_added, tick_ended}

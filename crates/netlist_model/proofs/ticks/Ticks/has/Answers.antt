@@ -1,4 +1,4 @@
-use Rattle.std.proofs.Common.{ap, ◌∙◌, is_some, option_map}
+use Rattle.std.proofs.Common.{ap, ◌∙◌, is_some}
 use Rattle.netlist_model.specs.Circuit.{tick_of}
 use Rattle.netlist_model.specs.declared.ticks.Place.{Place}
 use Rattle.netlist_model.specs.declared.parts.Tick.{Tick}

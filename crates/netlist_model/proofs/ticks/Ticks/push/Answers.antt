@@ -1,10 +1,9 @@
-use Rattle.std.proofs.Common.{◌≡◌, ℕ, ◌∙◌, ◌+◌, sym, ap, refl, length, Option, Some, None, option_map, is_some, false, cond, arith, rules, ◌++◌, ◌∷◌, []}
+use Rattle.std.proofs.Common.{◌≡◌, ◌∙◌, ◌+◌, sym, ap, refl, length, Some, option_map, is_some, false, arith, rules, ◌++◌, ◌∷◌, []}
 use Rattle.std.proofs.lemmas.List.{length_push}
 use Rattle.indexmap.specs.IndexMap.{get}
-use Rattle.netlist_model.specs.Blocks.{pair_eq, TellsCounts}
+use Rattle.netlist_model.specs.Blocks.{pair_eq}
 use Rattle.netlist_model.specs.Circuit.{tick_of}
 use Rattle.netlist_model.specs.declared.ticks.Place.{Place}
-use Rattle.netlist_model.specs.declared.parts.Tick.{Tick}
 use Rattle.netlist_model.proofs.BlockLemmas.{put_flat, put_index, grown_flat, grown_index, has_tick, index_same, none_of, lists, flat}
 use Rattle.netlist_model.proofs.CountLemmas.{looked_up, told_push, told_same}
 use Rattle.netlist_model.proofs.Tables.{on_ok_at}

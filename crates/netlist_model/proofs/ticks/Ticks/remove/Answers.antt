@@ -1,4 +1,4 @@
-use Rattle.std.proofs.Common.{◌≡◌, ℕ, ◌<◌, ◌∙◌, length, sym, ap, refl, rules, arith, filter, not, Some, None, option_map}
+use Rattle.std.proofs.Common.{◌<◌, ◌∙◌, length, sym, ap, rules, arith, filter, not, None, option_map}
 use Rattle.indexmap.specs.IndexMap.{get}
 use Rattle.netlist_model.specs.Blocks.{pair_eq}
 use Rattle.netlist_model.specs.Circuit.{is_between}
