@@ -42,6 +42,7 @@ class Netlist:
     def __init__(self, gates, tick, cells=CELLS):
         self.gates, self.tick, self.cells = gates, tick, cells
         self.roots, self.is_shuffled = 0, False
+        self.own = {}  # rise and fall of an input's arc at one gate, by the gate and the place of the input
 
     def rules(self):
         for net, (kind, inputs) in enumerate(self.gates):
@@ -60,8 +61,9 @@ class Netlist:
         if self.is_shuffled:
             for lines in (nets, insts, ticks):
                 random.Random(7).shuffle(lines)
+        delays = ["delay u%d I%d %d %d" % (at + own) for at, own in self.own.items()]
         with open(netlist, "w") as file:
-            file.write("\n".join(nets + insts + ticks + ["root n0+"] + self.forks()) + "\n")
+            file.write("\n".join(nets + insts + delays + ticks + ["root n0+"] + self.forks()) + "\n")
         with open(library, "w") as file:
             for kind, arcs in self.cells.items():
                 pins = ", ".join('"I%d"' % at for at in range(len(arcs)))
@@ -245,6 +247,76 @@ def hub_raised(nets):
     return hub(nets, 4)
 
 
+IDLE = 15
+
+
+def closings(nets, idle=0):
+    """A chain of rising events with a tick a step, numbered from its end to its start, and a way back of falling events. Each step closes
+    a cycle to the start whose ratio is just above that of the step before. Behind the start some nets have nothing but idle ticks."""
+    steps = nets - idle
+    cells = {
+        "STEP": [("pos", 0, 0), ("pos", 0, 0), ("neg", 0, 0)],
+        "HEAD": [("pos", 0, 0), ("pos", 0, 0), ("neg", 0, 0), ("neg", 0, 0)],
+        "IDLE": [("non", 0, 0)] * 16,
+    }
+    at = [steps - 1 - step for step in range(steps)]
+    gates, own, ticks = [None] * nets, {}, {}
+    for step in range(steps):
+        before, after = at[max(step - 1, 0)], at[min(step + 1, steps - 1)]
+        here = at[step]
+        gates[here] = ("STEP", [before, after, before])
+        if idle and step == 0:
+            gates[here] = ("HEAD", [before, after, before, steps])
+        own[here, 0], own[here, 1] = (30000, 0), (0, 30000)
+        own[here, 2] = (0, 60000 + (step + 1) * 50 * step // steps)
+        ticks[2 * before, 2 * here] = ticks[2 * before, 2 * here + 1] = 1
+        if step == 0:
+            ticks[2 * before + 1, 2 * here] = 1
+        if step < steps - 1:
+            ticks[2 * after + 1, 2 * here + 1] = 0
+    for net in range(steps, nets):
+        gates[net] = ("IDLE", [at[0]] + [steps + (net - steps + step) % idle for step in range(1, 16)])
+    netlist = Netlist(gates, lambda source, target: ticks.get((source, target), IDLE), cells)
+    netlist.own = own
+    return netlist
+
+
+def closings_and_idle(nets):
+    return closings(nets * 5 // 16, nets // 18)
+
+
+def one_tick_a_sweep(nets):
+    """A chain of rising events with a tick a step, numbered from its end to its start, whose numbers rise step by step: each step has a
+    rule from the start that is a little too light. Each also leads to a row of falling events, by more at each later step, and the row to
+    a hub, so each rise raises what the hub leads to."""
+    steps, leaves = nets * 3 // 10, nets * 7 // 100
+    cells = {
+        "STEP": [("pos", 0, 0), ("pos", 0, 0), ("neg", 0, 0), ("pos", 0, 0)],
+        "HEAD": [("pos", 0, 0), ("pos", 0, 0), ("neg", 0, 0), ("pos", 0, 0), ("non", 0, 0)],
+        "LEAF": [("non", 0, 0)] * 16,
+    }
+    at = [steps - 1 - step for step in range(steps)]
+    gates, own, ticks = [None] * (steps + leaves), {}, {}
+    for step in range(steps):
+        here, before, after = at[step], at[max(step - 1, 0)], at[step + 1] if step < steps - 1 else at[1]
+        start = at[0] if step > 1 else at[2]
+        gates[here] = ("STEP", [before, after, here, start])
+        if step == 0:
+            gates[here] = ("HEAD", [here, at[1], at[1], at[2], steps])
+        own[here, 0], own[here, 1], own[here, 2] = (100000, 0), (0, 1), (0, 50000)
+        own[here, 3] = (180000 if step else 0, 0)
+        ticks[2 * before, 2 * here] = ticks[2 * gates[here][1][2], 2 * here + 1] = 1
+        if step < steps - 1:
+            ticks[2 * after + 1, 2 * here + 1] = 0
+        if step > 0:
+            ticks[2 * start, 2 * here] = 2
+    for net in range(steps, steps + leaves):
+        gates[net] = ("LEAF", [at[0], steps + (net - steps + 1) % leaves] + [at[0]] * 14)
+    netlist = Netlist(gates, lambda source, target: ticks.get((source, target), IDLE), cells)
+    netlist.own = own
+    return netlist
+
+
 def shuffled(make):
     def shuffle(nets):
         net = make(nets)
@@ -268,7 +340,7 @@ KINDS = [
     ("random", drawn), ("random onward", drawn_forward), ("random onward shuffled", shuffled(drawn_forward)),
     ("random, ticks", ticked), ("random, no delays", no_delays), ("random, alike", alike),
     ("16 inputs", wide), ("16 inputs random", wide_drawn), ("hub", hub), ("hub shuffled", shuffled(hub)),
-    ("hub, raised", hub_raised),
+    ("hub, raised", hub_raised), ("closings", closings), ("closings, idle nets", closings_and_idle), ("one tick a sweep", one_tick_a_sweep),
     ("64 roots, random", with_roots(drawn)), ("64 roots, Muller", with_roots(muller)), ("64 roots, chain", with_roots(chain)),
 ]
 

@@ -73,10 +73,13 @@ fn analysis_of<R: Threads + Sync, M: ArrivalMaker>(
     connected_systems_have_a_cycle();
     let found = greatest(alloc, system)?;
     let period = found.period;
-    let arrivals = maker.arrivals(rt, alloc, system, root, period)?;
+    let reduced = found.reduced;
+    let arrivals = maker.arrivals(rt, alloc, system, root, period, &reduced)?;
     let times = arrivals.list();
     let cycle = critical_cycle(alloc, system, root, period, times)?;
-    let slacks = slacks_of(rt, alloc, system, root, period, times, forks, maker)?;
+    let slacks = slacks_of(
+        rt, alloc, system, root, period, &reduced, times, forks, maker,
+    )?;
     Ok(Analysis {
         period,
         cycle,

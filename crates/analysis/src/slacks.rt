@@ -6,6 +6,7 @@ ghost use Rattle.analysis.specs.Forks.{AreSlacks, HasEarlier, IsFork, fork_at, s
 
 use cyc_num::Ratio;
 use fork_slack::{ForkOf, slack};
+use potentials::search::Reduced;
 use potentials::{ArrivalMaker, Times};
 use rule_system::System;
 use std::alloc::{AllocError, Global};
@@ -19,6 +20,7 @@ pub fn slacks_of<R: Threads + Sync, M: ArrivalMaker>(
     system: &System,
     root: u32,
     period: Ratio,
+    reduced: &Reduced,
     arrivals: &[i64],
     forks: &[ForkOf],
     maker: &M,
@@ -38,7 +40,7 @@ pub fn slacks_of<R: Threads + Sync, M: ArrivalMaker>(
     'forks: for number in 0..count {
         let own = forks[number].root;
         if own != root && is_first_of_root(forks, number) {
-            let times = maker.arrivals(rt, alloc, system, own, period)?;
+            let times = maker.arrivals(rt, alloc, system, own, period, reduced)?;
             fill(forks, own, period, times.list(), &mut slacks);
         }
     }

@@ -2,6 +2,7 @@ pub mod Names
 pub mod Prefixes
 pub mod FirstPins
 pub mod Sound
+pub mod StepLemmas
 pub mod Documents
 pub mod Indexes
 pub mod Computed

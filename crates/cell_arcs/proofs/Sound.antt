@@ -1,5 +1,5 @@
 -- What the definition accepts is a library.
-use Rattle.std.proofs.Common.{◌≡◌, ℕ, ◌+◌, ◌≤◌, ◌++◌, ◌∷◌, [], List, length, map, Bool, true, false, nat_eq, nat_lt, nat_le, get_or, Option, Some, None, option_map, Result, Ok, Err, position, ℤ, pos, negsuc, refl, sym, ap, subst, ◌∙◌, arith, if◌then◌else◌, All, append_assoc}
+use Rattle.std.proofs.Common.{◌≡◌, ℕ, ◌+◌, ◌≤◌, ◌++◌, ◌∷◌, [], List, length, map, Bool, true, false, nat_eq, nat_lt, nat_le, get_or, Option, Some, None, option_map, Ok, position, ℤ, pos, negsuc, refl, sym, ap, subst, ◌∙◌, arith, if◌then◌else◌, All, append_assoc}
 use Rattle.std.specs.Prelude.{⊤, MatchOption}
 use Rattle.std.specs.List.{IsDistinct, list_any}
 use Rattle.std.specs.Str.{bytes_eq}
@@ -14,38 +14,16 @@ use Rattle.cyc_text.specs.Name.{is_name}
 use Rattle.std.proofs.lemmas.Map.Keys.{IsDistinct-push}
 use Rattle.cell_arcs.specs.declared.cells.Cell.{Cell}
 use Rattle.cell_arcs.specs.declared.cells.CellArc.{CellArc}
-use Rattle.cell_arcs.specs.declared.faults.LibraryFault.{LibraryFault}
 use Rattle.cell_arcs.specs.declared.faults.LibraryFault.TheVariants.{UnknownPin, BadSense, BadDelay, BadName, BadShape, RepeatedPin}
 use Rattle.cell_arcs.specs.Shape.{ArcShape, CellShape}
-use Rattle.cell_arcs.specs.Steps.{◌>>=◌, or_fault, unless_fault, or_else}
+use Rattle.cell_arcs.specs.Steps.{or_fault, or_else}
 use Rattle.cell_arcs.specs.Library.{sense_of, delay_of, arc_of, arcs_after, arcs_of, pin_fault, bad_name, repeated_pin, cell_from, cell_of, cell_shape, cells_from}
 use Rattle.cell_arcs.specs.Firsts.{IsFirstBadName, IsFirstRepeat}
 use Rattle.cell_arcs.proofs.FirstPins.{finds_first_bad_name, finds_first_repeat}
+use Rattle.cell_arcs.proofs.StepLemmas.{bind_ok, or_fault_ok, if_ok, else_ok, unless_ok}
 use Rattle.cell_arcs.proofs.Names.{same_bytes, equal_bytes}
 use Rattle.cell_arcs.specs.IsLibrary.{IsArc, AreArcs, IsCell, member_keys}
 use Rattle.toml.specs.Data.{Data, Members, no_members, member}
-
--- an accepted step was handed an accepted value
-pub bind_ok : {A B : Type 0} (r : Result A LibraryFault) (f : A → Result B LibraryFault) (y : B) → r >>= f ≡ Ok y → (x : A) × (r ≡ Ok x) × (f x ≡ Ok y)
-bind_ok (Ok x) f y h = (x, refl, h)
-bind_ok (Err e) f y h = cc
-
-pub or_fault_ok : {A : Type 0} (e : LibraryFault) (o : Option A) (x : A) → or_fault e o ≡ Ok x → o ≡ Some x
-or_fault_ok e None x h = cc
-or_fault_ok e (Some y) x h = cc
-
--- a refused branch was not taken
-pub if_err : {A : Type 0} (b : Bool) (e : LibraryFault) (r : Result A LibraryFault) (x : A) → (if b then Err e else r) ≡ Ok x → (b ≡ false) × (r ≡ Ok x)
-if_err true e r x h = cc
-if_err false e r x h = (refl, h)
-
-else_err : {A : Type 0} (b : Bool) (e : LibraryFault) (r : Result A LibraryFault) (x : A) → (if b then r else Err e) ≡ Ok x → (b ≡ true) × (r ≡ Ok x)
-else_err true e r x h = (refl, h)
-else_err false e r x h = cc
-
-unless_ok : {A : Type 0} (o : Option LibraryFault) (r : Result A LibraryFault) (x : A) → unless_fault o r ≡ Ok x → (o ≡ None) × (r ≡ Ok x)
-unless_ok None r x h = (refl, h)
-unless_ok (Some e) r x h = cc
 
 some_if : (b : Bool) (m n : ℕ) → (if b then Some m else None) ≡ Some n → (b ≡ true) × (m ≡ n)
 some_if true m n h = (refl, cc)
@@ -71,7 +49,7 @@ pub arc_sound : (n : ℕ) (inputs : List (List ℕ)) (earlier : List ArcShape) (
 unfolding arc_of
 arc_sound n inputs earlier a x h =
     let (place, at, h1) = bind_ok (or_fault (UnknownPin n (length earlier + 1)) (position (bytes_eq a.from) inputs)) _ x h in
-    let (fresh, h2) = if_err (list_any (λ b. bytes_eq a.from b.from) earlier) _ _ x h1 in
+    let (fresh, h2) = if_ok (list_any (λ b. bytes_eq a.from b.from) earlier) _ _ x h1 in
     let (sense, _, h3) = bind_ok (or_fault (BadSense n (length earlier + 1)) (sense_of a.sense)) _ x h2 in
     let (rise, r, h4) = bind_ok (or_fault (BadDelay n (length earlier + 1)) (delay_of a.rise)) _ x h3 in
     let (fall, l, h5) = bind_ok (or_fault (BadDelay n (length earlier + 1)) (delay_of a.fall)) _ x h4 in
@@ -161,7 +139,7 @@ pins_sound n pins h =
 pub cell_from_sound : (n : ℕ) (name : List ℕ) (s : CellShape) (c : Cell) → is_name name ≡ true → cell_from n name s ≡ Ok c → IsCell c × (c.name ≡ name)
 unfolding cell_from
 cell_from_sound n name s c named h =
-    let (few, h1) = if_err (nat_lt 16 (length s.inputs)) _ _ c h in
+    let (few, h1) = if_ok (nat_lt 16 (length s.inputs)) _ _ c h in
     let (pins, h2) = unless_ok (pin_fault n (s.inputs ++ s.output ∷ [])) _ c h1 in
     let (arcs, is, h3) = bind_ok (arcs_of n s.inputs s.arcs) _ c h2 in
     let (names, differ) = pins_sound n (s.inputs ++ s.output ∷ []) pins in
@@ -173,7 +151,7 @@ cell_from_sound n name s c named h =
 pub cell_sound : (n : ℕ) (name : List ℕ) (d : Data) (c : Cell) → cell_of n name d ≡ Ok c → IsCell c × (c.name ≡ name)
 unfolding cell_of
 cell_sound n name d c h =
-    let (named, h1) = else_err (is_name name) _ _ c h in
+    let (named, h1) = else_ok (is_name name) _ _ c h in
     let (s, _, h2) = bind_ok (or_fault (BadShape n) (cell_shape d)) _ c h1 in
     cell_from_sound n name s c named h2
 

@@ -3,3 +3,4 @@ pub mod Number
 pub mod ReadBack
 pub mod Spans
 pub mod Words
+pub mod Written

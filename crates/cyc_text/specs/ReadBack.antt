@@ -1,7 +1,8 @@
--- Written words and lines are read back.
-use Rattle.std.specs.Prelude.{◌≡◌, ◌≢◌, ◌≤◌, ◌-◌, ℕ, List, [], ◌∷◌, ◌++◌, length, false, slice_index}
+-- Written words, lines and numbers are read back.
+use Rattle.std.specs.Prelude.{◌≡◌, ◌≢◌, ◌≤◌, ◌<◌, ◌-◌, ◌^◌, ℕ, List, [], ◌∷◌, ◌++◌, length, false, slice_index, Some, decimal}
 use Rattle.std.specs.List.{All, list_any, join_with_byte}
 use Rattle.std.specs.Str.Lines.{lines}
+use Rattle.cyc_text.specs.Number.{number_of}
 use Rattle.cyc_text.specs.Words.{is_newline, ends_word, words_of}
 
 -- a word: it has a byte, and neither a blank nor a '#'
@@ -30,3 +31,11 @@ WordsReadBack = (words : List (List ℕ)) → All IsWord words → words_of (joi
 -- lines with a line feed behind each are read back
 abbrev pub LinesReadBack : Type 0
 LinesReadBack = (written : List (List ℕ)) → All IsLine written → lines (written_lines written) ≡ written
+
+-- a number of at most 19 digits in decimal is a word
+abbrev pub NumbersAreWords : Type 0
+NumbersAreWords = (n : ℕ) → n < 10 ^ 19 → IsWord (decimal n)
+
+-- a number of at most 19 digits in decimal is read back
+abbrev pub NumbersReadBack : Type 0
+NumbersReadBack = (n : ℕ) → n < 10 ^ 19 → number_of (decimal n) ≡ Some n

@@ -1,21 +1,25 @@
-//! Texts as lists of bytes; lines, words, names and numbers in them.
+//! Texts as lists of bytes; lines, words, names and numbers in them, read and written.
 #![tactic(auto)]
 
 mod laws;
 mod limits;
 mod names;
 mod numbers;
+mod pen;
 mod spans;
 #[cfg(test)]
 mod tests;
 mod text;
+mod words;
 
 pub use laws::{
-    first_lines_are_unique, first_words_are_unique, lines_are_read_back, numbers_are_told,
-    words_are_plain, words_are_read_back,
+    first_lines_are_unique, first_words_are_unique, lines_are_read_back, numbers_are_read_back,
+    numbers_are_told, words_are_plain, words_are_read_back,
 };
 pub use limits::Limit;
 pub use names::is_name;
 pub use numbers::read_number;
+pub use pen::{push_decimal, push_number, push_signed, push_word};
 pub use spans::{LineSpan, WordSpan, next_line, next_word};
 pub use text::Text;
+pub use words::first_word;

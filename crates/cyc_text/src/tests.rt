@@ -1,4 +1,7 @@
-use crate::{LineSpan, Text, WordSpan, is_name, next_line, next_word, read_number};
+use crate::{
+    LineSpan, Text, WordSpan, first_word, is_name, next_line, next_word, push_decimal, push_number,
+    push_signed, push_word, read_number,
+};
 use std::test::Fail;
 
 #[test]
@@ -73,6 +76,38 @@ fn ends_words(rt: HostRuntime) {
         let word = next_word(&text, line, 0);
         assert_eq!(rt; word, Some(WordSpan { from: 0, to }), "{byte}");
     }
+}
+
+#[test]
+fn takes_first_words(rt: HostRuntime) {
+    for (line, word, rest) in [
+        (
+            b" \tnet=a b# c".as_slice(),
+            b"net=a".as_slice(),
+            b" b# c".as_slice(),
+        ),
+        (b"a#b".as_slice(), b"a".as_slice(), b"#b".as_slice()),
+        (b"a".as_slice(), b"a".as_slice(), b"".as_slice()),
+    ] {
+        assert_eq!(rt; first_word(line), Some((word, rest)), "{line:?}");
+    }
+    for line in [b"".as_slice(), b" \t".as_slice(), b" # a".as_slice()] {
+        assert_eq!(rt; first_word(line), None, "{line:?}");
+    }
+}
+
+#[test]
+fn writes_words_and_numbers(rt: HostRuntime) -> Result<(), Fail> {
+    let mut text = Vec::new(rt.alloc());
+    push_word(&mut text, b"tick")?;
+    push_number(&mut text, 0)?;
+    push_signed(&mut text, i64::MIN)?;
+    push_decimal(&mut text, u64::MAX)?;
+    assert_eq!(rt;
+        text.as_slice(),
+        b" tick 0-922337203685477580818446744073709551615".as_slice()
+    );
+    Ok(())
 }
 
 #[test]

@@ -10,6 +10,9 @@ use first_cycle::first_cycle;
 use rule_system::{Cycle, Rule, System};
 use std::alloc::{AllocError, Global};
 
+/// The largest number that a tree of parents can give.
+const LARGEST: u64 = 20_000_000_000_000_000;
+
 /// A cycle of a greater ratio than `top / bottom`, or none where there is none.
 ///
 /// Rounds of relaxation from 0 with a parent rule for each event (Bellman 1958, Moore 1959): the numbers settle where no
@@ -50,13 +53,53 @@ fn climb(
     ensures gains { IfOk result (λ found. IfSome found (λ cycle. Gains top bottom system.now.rules cycle)) }
     ensures none { IfOk result (λ found. IfNone found (HasNoGain top bottom system.now.rules)) }
 {
+    let mut rounds: u32 = 0;
     'rounds: while round(system, top, bottom, numbers, parents) {
-        let chosen = chosen_rules(alloc, system.rules(), parents)?;
-        if let Some(cycle) = first_cycle(alloc, system, &chosen)? {
+        rounds = rounds.saturating_add(1);
+        if let Some(cycle) = look(alloc, system, top, bottom, rounds, numbers, parents)? {
             return Ok(Some(cycle));
         }
     }
     Ok(None)
+}
+
+/// A cycle that the parents close. It is looked for after 1, 2, 4, 8 rounds and so on, and where numbers are so large that
+/// there must be one.
+fn look(
+    alloc: Global,
+    system: &System,
+    top: u64,
+    bottom: u64,
+    rounds: u32,
+    numbers: &[u64],
+    parents: &[Option<u32>],
+) -> Result<Option<Cycle>, AllocError>
+    requires bottom { bottom ≤ 491520 }
+    requires tree { IsTree top bottom system.now.events system.now.rules numbers.now parents.now }
+    ensures cycle { IfOk result (λ found. IfSome found (λ cycle. IsShortCycle system.now.events system.now.rules cycle)) }
+    ensures gains { IfOk result (λ found. IfSome found (λ cycle. Gains top bottom system.now.rules cycle)) }
+    ensures small { IfOk result (λ found. IfNone found (AreAtMost 20000000000000000 numbers.now)) }
+{
+    if !rounds.is_power_of_two() && are_small(numbers) {
+        return Ok(None);
+    }
+    let chosen = chosen_rules(alloc, system.rules(), parents)?;
+    match first_cycle(alloc, system, &chosen)? {
+        Some(cycle) => Ok(Some(cycle)),
+        None => Ok(None),
+    }
+}
+
+/// Whether no number is larger than those of trees of parents.
+fn are_small(numbers: &[u64]) -> bool
+    ensures { result ≡ true → AreAtMost 20000000000000000 numbers.now }
+{
+    'numbers: for number in numbers {
+        if *number > LARGEST {
+            return false;
+        }
+    }
+    true
 }
 
 /// For each rule whether it is the parent of its target.

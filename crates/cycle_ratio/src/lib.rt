@@ -1,16 +1,15 @@
 //! The period of a live system: the greatest ratio of delay to offset over all cycles.
+//!
+//! The folder `search/` proposes a cycle and promises nothing; what it proposes is tested by proved code, and where it does
+//! not hold, a proved search goes on from there. Definitions of the period stand in `rule_system`.
 #![tactic(auto)]
 
 mod checking;
-mod choices;
-mod closings;
 mod gains;
-mod pending;
-mod proposals;
+mod periods;
 mod raising;
 mod search;
-mod steps;
 #[cfg(test)]
 mod tests;
 
-pub use search::{Found, greatest};
+pub use periods::{Found, greatest};

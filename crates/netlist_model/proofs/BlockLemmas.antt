@@ -24,12 +24,12 @@ nat_refl : (k : ℕ) → (k == k) ≡ true
 nat_refl k = grind (arith, nat_tests)
 
 -- a tick passes where it is in a block that has one that passes
-any_flat : (p : Tick → Bool) (blocks : List (List Tick)) → list_any p (flat blocks) ≡ list_any (λ b. list_any p b) blocks
+pub any_flat : (p : Tick → Bool) (blocks : List (List Tick)) → list_any p (flat blocks) ≡ list_any (λ b. list_any p b) blocks
 any_flat p [] = refl
 any_flat p (b ∷ bs) = list_any-append p b (flat bs) ∙ rw (any_flat p bs) refl
 
 -- no block has one that passes
-none_flat : (p : Tick → Bool) (blocks : List (List Tick)) → ((j : ℕ) (b : List Tick) → slice_get blocks j ≡ Some b → list_any p b ≡ false) → list_any p (flat blocks) ≡ false
+pub none_flat : (p : Tick → Bool) (blocks : List (List Tick)) → ((j : ℕ) (b : List Tick) → slice_get blocks j ≡ Some b → list_any p b ≡ false) → list_any p (flat blocks) ≡ false
 none_flat p [] h = refl
 none_flat p (b ∷ bs) h = list_any-append p b (flat bs) ∙ rw (h 0 b refl, none_flat p bs (λ j x e. h (suc j) x e)) refl
 

@@ -51,13 +51,14 @@ arc_within library insts at arc i cell fits is kind low =
 delayed : Instance → ℕ → ℕ → ℕ → Instance
 delayed i arc rise fall = record i { delays = set i.delays arc (Some (record { rise = rise; fall = fall })) }
 
-one_driver_set : (insts : List Instance) (at : ℕ) (i y : Instance) → slice_get insts at ≡ Some i → y.pins ≡ i.pins → ((k n : ℕ) (j : Instance) → slice_get insts k ≡ Some j → drives n j ≡ true → driver_of insts n ≡ Some k)
+-- an instance of which the last pin is where it was
+pub one_driver_set : (insts : List Instance) (at : ℕ) (i y : Instance) → slice_get insts at ≡ Some i → last_of y.pins ≡ last_of i.pins → ((k n : ℕ) (j : Instance) → slice_get insts k ≡ Some j → drives n j ≡ true → driver_of insts n ≡ Some k)
     → (k n : ℕ) (j : Instance) → slice_get (set insts at y) k ≡ Some j → drives n j ≡ true → driver_of (set insts at y) n ≡ Some k
 one_driver_set insts at i y is same old k n j e d =
-    let pins : y.pins ≡ (get_or insts at i).pins = same ∙ ap (λ (x : Instance). x.pins) (sym (get_or_from_slice_get insts at i i is)) in
-    position_set (drives n) insts at y i (ap (λ ps. is_net n (last_of ps)) pins)
+    let pins : last_of y.pins ≡ last_of (get_or insts at i).pins = same ∙ ap (λ (x : Instance). last_of x.pins) (sym (get_or_from_slice_get insts at i i is)) in
+    position_set (drives n) insts at y i (ap (is_net n) pins)
     ∙ elim (set_cases insts at k y j e) [
-      | inl h ↦ old at n i is (ap (λ ps. is_net n (last_of ps)) (sym same) ∙ ap (drives n) h.1 ∙ d) ∙ ap Some (sym h.0)
+      | inl h ↦ old at n i is (ap (is_net n) (sym same) ∙ ap (drives n) h.1 ∙ d) ∙ ap Some (sym h.0)
       | inr h ↦ old k n j h.1 d
     ]
 

@@ -1,6 +1,6 @@
 -- Each statement keeps what holds of every netlist, and keeps a netlist that fits a library so.
 use Rattle.std.proofs.Common.{◌≡◌, ℕ, ◌+◌, ◌*◌, ◌<◌, ◌≤◌, ◌==◌, ◌&&◌, not, List, [], ◌∷◌, ◌++◌, length, map, find, Bool, true, false, nat_lt, nat_le, Option, Some, None, is_some, is_none, option_map, option_and_then, position, slice_get, Result, Ok, Err, refl, sym, ap, subst, ◌∙◌, arith, All, if◌then◌else◌, filter}
-use Rattle.std.specs.List.{list_any}
+use Rattle.std.specs.List.{list_any, remove}
 use Rattle.std.specs.Str.{bytes_eq}
 use Rattle.std.proofs.lemmas.Bool.Decides.{nat_tests}
 use Rattle.std.proofs.lemmas.List.{length_push, length-map}
@@ -10,38 +10,41 @@ use Rattle.cyc_text.specs.declared.limits.Limit.TheVariants.{Nets, Consts, Forks
 use Rattle.cell_arcs.specs.declared.cells.Cell.{Cell}
 use Rattle.cell_arcs.specs.Steps.{or_else, or_fault, unless_fault, ◌>>=◌}
 use Rattle.netlist_model.specs.Circuit.{Circuit, place_of, ref_of, event_at, event_of, inst_of, fork_of, driver_of, is_between, tick_of, roots_of}
+use Rattle.netlist_model.specs.Deletions.{is_used, after_ref, del_inst, del_net, del_fork}
 use Rattle.netlist_model.specs.Edits.{made}
 use Rattle.netlist_model.specs.Sound.{IsPin, IsTick, IsNetlist, Fits}
-use Rattle.netlist_model.specs.Statements.{unless, is_ref, add_net, add_const, pin_fault, wire_of, wires_of, output_fault, add_inst_of, add_inst, arc_of, cell_at, set_delay, end_tick, start_tick, set_tick, set_root, add_fork_of, add_fork}
+use Rattle.netlist_model.specs.Statements.{unless, is_ref, add_net, add_const, pin_fault, wire_of, wires_of, output_fault, add_inst_of, add_inst, arc_of, cell_at, moved_output_fault, with_pin, move_pin, has_pins_of, with_cell, swap_cell, set_delay, end_tick, start_tick, set_tick, set_root, add_fork_of, add_fork}
 use Rattle.netlist_model.specs.declared.edits.Edit.{Edit}
 use Rattle.netlist_model.specs.declared.edits.Edit.TheVariants as edit
 use Rattle.netlist_model.specs.declared.faults.StatementFault.{StatementFault}
-use Rattle.netlist_model.specs.declared.faults.StatementFault.TheVariants.{BadName, NameTaken, UnknownInst, UnknownCell, BadPins, OutOfRange, TickTaken, UnknownEvent, RootTaken, ForkTaken, TooMany}
+use Rattle.netlist_model.specs.declared.faults.StatementFault.TheVariants.{BadName, NameTaken, UnknownNet, UnknownPin, UnknownFork, StillUsed, UnknownInst, UnknownCell, BadPins, OutOfRange, TickTaken, UnknownEvent, RootTaken, ForkTaken, TooMany}
 use Rattle.netlist_model.specs.declared.parts.EventName.{EventName}
 use Rattle.netlist_model.specs.declared.parts.Fork.{Fork}
 use Rattle.netlist_model.specs.declared.parts.Instance.{Instance}
 use Rattle.netlist_model.specs.declared.parts.NetRef.{NetRef}
 use Rattle.netlist_model.specs.declared.parts.NetRef.TheVariants.{Net, Const}
 use Rattle.netlist_model.specs.declared.parts.PinNet.{PinNet}
+use Rattle.netlist_model.proofs.Deleted.{inst_removed, fits_remove, fork_removed, const_removed, net_removed, fits_after}
+use Rattle.netlist_model.proofs.Moved.{pin_moved, fits_moved, cell_swapped, fits_swapped}
 use Rattle.netlist_model.proofs.InstanceLemmas.{last_push, instance_sound, fits_push, delay_set, fits_delay}
 use Rattle.netlist_model.proofs.Places.{position_within}
 use Rattle.netlist_model.proofs.Soundness.{net_added, const_added, tick_added, tick_ended, root_set, fork_added, roots_fit, inst_added}
 
 -- ---- steps that are not refused
 
-bind_ok : {A B : Type 0} (r : Result A StatementFault) (f : A → Result B StatementFault) (y : B) → r >>= f ≡ Ok y → (x : A) × (r ≡ Ok x) × (f x ≡ Ok y)
+pub bind_ok : {A B : Type 0} (r : Result A StatementFault) (f : A → Result B StatementFault) (y : B) → r >>= f ≡ Ok y → (x : A) × (r ≡ Ok x) × (f x ≡ Ok y)
 bind_ok (Ok x) f y h = (x, refl, h)
 bind_ok (Err e) f y h = cc
 
-or_fault_ok : {A : Type 0} (e : StatementFault) (o : Option A) (x : A) → or_fault e o ≡ Ok x → o ≡ Some x
+pub or_fault_ok : {A : Type 0} (e : StatementFault) (o : Option A) (x : A) → or_fault e o ≡ Ok x → o ≡ Some x
 or_fault_ok e None x h = cc
 or_fault_ok e (Some y) x h = cc
 
-unless_ok : {A : Type 0} (b : Bool) (e : StatementFault) (r : Result A StatementFault) (x : A) → unless b e r ≡ Ok x → (b ≡ false) × (r ≡ Ok x)
+pub unless_ok : {A : Type 0} (b : Bool) (e : StatementFault) (r : Result A StatementFault) (x : A) → unless b e r ≡ Ok x → (b ≡ false) × (r ≡ Ok x)
 unless_ok true e r x h = cc
 unless_ok false e r x h = (refl, h)
 
-unless_fault_ok : {A : Type 0} (o : Option StatementFault) (r : Result A StatementFault) (x : A) → unless_fault o r ≡ Ok x → (o ≡ None) × (r ≡ Ok x)
+pub unless_fault_ok : {A : Type 0} (o : Option StatementFault) (r : Result A StatementFault) (x : A) → unless_fault o r ≡ Ok x → (o ≡ None) × (r ≡ Ok x)
 unless_fault_ok None r x h = (refl, h)
 unless_fault_ok (Some e) r x h = cc
 
@@ -49,7 +52,7 @@ not_false : (b : Bool) → not b ≡ false → b ≡ true
 not_false true h = refl
 not_false false h = cc
 
-none_there : {A : Type 0} (o : Option A) → is_some o ≡ false → o ≡ None
+pub none_there : {A : Type 0} (o : Option A) → is_some o ≡ false → o ≡ None
 none_there None h = refl
 none_there (Some x) h = cc
 
@@ -244,22 +247,136 @@ set_delay_keeps library c d inst pin rise fall h =
     let e : _ ≡ d = cc in
     subst (Keeps library c) e ((λ s. delay_set c at arc rise fall s low high), (λ fits. fits_delay library c.insts at arc rise fall fits))
 
+-- ---- statements that take something away
+
+pub del_inst_sound : (c d : Circuit) (name : List ℕ) → IsNetlist c → del_inst c name ≡ Ok d → IsNetlist d
+unfolding del_inst
+del_inst_sound c d name s h =
+    let (at, _, h1) = bind_ok (or_fault UnknownInst (inst_of c.insts name)) _ d h in
+    let e : record c { insts = remove c.insts at } ≡ d = cc in
+    subst IsNetlist e (inst_removed c at s)
+
+pub del_inst_fits : (library : List Cell) (c d : Circuit) (name : List ℕ) → Fits library c.insts → del_inst c name ≡ Ok d → Fits library d.insts
+unfolding del_inst
+del_inst_fits library c d name fits h =
+    let (at, _, h1) = bind_ok (or_fault UnknownInst (inst_of c.insts name)) _ d h in
+    let e : record c { insts = remove c.insts at } ≡ d = cc in
+    subst (λ (x : Circuit). Fits library x.insts) e (fits_remove library c.insts at fits)
+
+pub del_fork_sound : (c d : Circuit) (name : List ℕ) → IsNetlist c → del_fork c name ≡ Ok d → IsNetlist d
+unfolding del_fork
+del_fork_sound c d name s h =
+    let (at, is, h1) = bind_ok (or_fault UnknownFork (fork_of c.forks name)) _ d h in
+    let e : record c { forks = remove c.forks at } ≡ d = cc in
+    let low = position_within (λ f. bytes_eq name f.name) c.forks at (or_fault_ok UnknownFork (fork_of c.forks name) at is) in
+    subst IsNetlist e (fork_removed c at low s)
+
+pub del_fork_insts : (c d : Circuit) (name : List ℕ) → del_fork c name ≡ Ok d → d.insts ≡ c.insts
+unfolding del_fork
+del_fork_insts c d name h =
+    let (at, _, h1) = bind_ok (or_fault UnknownFork (fork_of c.forks name)) _ d h in
+    let e : record c { forks = remove c.forks at } ≡ d = cc in
+    ap (λ (x : Circuit). x.insts) (sym e)
+
+pub del_net_sound : (c d : Circuit) (name : List ℕ) → IsNetlist c → del_net c name ≡ Ok d → IsNetlist d
+unfolding del_net
+del_net_sound c d name s h =
+    let (r, is, h1) = bind_ok (or_fault UnknownNet (ref_of c.nets c.consts name)) _ d h in
+    let (free, h2) = unless_ok (is_used c r) StillUsed _ d h1 in
+    let e : after_ref c r ≡ d = cc in
+    subst IsNetlist e (by r (ref_within c.nets c.consts name r (or_fault_ok UnknownNet (ref_of c.nets c.consts name) r is)) free)
+  where
+    by : (r : NetRef) → IsPin (length c.nets) (length c.consts) r → is_used c r ≡ false → IsNetlist (after_ref c r)
+    by (Net n) low free = net_removed c n low free s
+    by (Const k) low free = const_removed c k low free s
+
+pub del_net_fits : (library : List Cell) (c d : Circuit) (name : List ℕ) → Fits library c.insts → del_net c name ≡ Ok d → Fits library d.insts
+unfolding del_net
+del_net_fits library c d name fits h =
+    let (r, _, h1) = bind_ok (or_fault UnknownNet (ref_of c.nets c.consts name)) _ d h in
+    let (_, h2) = unless_ok (is_used c r) StillUsed _ d h1 in
+    let e : after_ref c r ≡ d = cc in
+    subst (λ (x : Circuit). Fits library x.insts) e (by r)
+  where
+    by : (r : NetRef) → Fits library (after_ref c r).insts
+    by (Net n) = fits_after library (Net n) c.insts fits
+    by (Const k) = fits_after library (Const k) c.insts fits
+
+-- ---- pins that move, instances of other cells
+
+pub move_pin_sound : (library : List Cell) (c d : Circuit) (inst pin net : List ℕ) → IsNetlist c → Fits library c.insts → move_pin library c inst pin net ≡ Ok d → IsNetlist d
+unfolding move_pin
+move_pin_sound library c d inst pin net s fits h =
+    let (at, _, h1) = bind_ok (or_fault UnknownInst (inst_of c.insts inst)) _ d h in
+    let (k, kind, h2) = bind_ok (or_fault UnknownCell (cell_at library c.insts at)) _ d h1 in
+    let (p, _, h3) = bind_ok (or_fault UnknownPin (place_of pin (k.inputs ++ k.output ∷ []))) _ d h2 in
+    let (r, is, h4) = bind_ok (or_fault UnknownNet (ref_of c.nets c.consts net)) _ d h3 in
+    let (may, h5) = unless_fault_ok (if p == length k.inputs then moved_output_fault c.insts at r else None) _ d h4 in
+    let e : record c { insts = with_pin c.insts at p r } ≡ d = cc in
+    subst IsNetlist e (pin_moved library c at p k r s fits (or_fault_ok UnknownCell (cell_at library c.insts at) k kind) (ref_within c.nets c.consts net r (or_fault_ok UnknownNet (ref_of c.nets c.consts net) r is)) may)
+
+pub move_pin_fits : (library : List Cell) (c d : Circuit) (inst pin net : List ℕ) → Fits library c.insts → move_pin library c inst pin net ≡ Ok d → Fits library d.insts
+unfolding move_pin
+move_pin_fits library c d inst pin net fits h =
+    let (at, _, h1) = bind_ok (or_fault UnknownInst (inst_of c.insts inst)) _ d h in
+    let (k, _, h2) = bind_ok (or_fault UnknownCell (cell_at library c.insts at)) _ d h1 in
+    let (p, _, h3) = bind_ok (or_fault UnknownPin (place_of pin (k.inputs ++ k.output ∷ []))) _ d h2 in
+    let (r, _, h4) = bind_ok (or_fault UnknownNet (ref_of c.nets c.consts net)) _ d h3 in
+    let (_, h5) = unless_fault_ok (if p == length k.inputs then moved_output_fault c.insts at r else None) _ d h4 in
+    let e : record c { insts = with_pin c.insts at p r } ≡ d = cc in
+    subst (λ (x : Circuit). Fits library x.insts) e (fits_moved library c.insts at p r fits)
+
+pub swap_cell_sound : (library : List Cell) (c d : Circuit) (inst cell : List ℕ) → IsNetlist c → swap_cell library c inst cell ≡ Ok d → IsNetlist d
+unfolding swap_cell
+swap_cell_sound library c d inst cell s h =
+    let (at, _, h1) = bind_ok (or_fault UnknownInst (inst_of c.insts inst)) _ d h in
+    let (old, _, h2) = bind_ok (or_fault UnknownCell (cell_at library c.insts at)) _ d h1 in
+    let (to, _, h3) = bind_ok (or_fault UnknownCell (position (λ k. bytes_eq cell k.name) library)) _ d h2 in
+    let (new, _, h4) = bind_ok (or_fault UnknownCell (slice_get library to)) _ d h3 in
+    let (_, h5) = unless_ok (not (has_pins_of old new)) BadPins _ d h4 in
+    let e : record c { insts = with_cell c.insts at to new } ≡ d = cc in
+    subst IsNetlist e (cell_swapped c at to new s)
+
+pub swap_cell_fits : (library : List Cell) (c d : Circuit) (inst cell : List ℕ) → Fits library c.insts → swap_cell library c inst cell ≡ Ok d → Fits library d.insts
+unfolding swap_cell
+swap_cell_fits library c d inst cell fits h =
+    let (at, _, h1) = bind_ok (or_fault UnknownInst (inst_of c.insts inst)) _ d h in
+    let (old, was, h2) = bind_ok (or_fault UnknownCell (cell_at library c.insts at)) _ d h1 in
+    let (to, _, h3) = bind_ok (or_fault UnknownCell (position (λ k. bytes_eq cell k.name) library)) _ d h2 in
+    let (new, is, h4) = bind_ok (or_fault UnknownCell (slice_get library to)) _ d h3 in
+    let (same, h5) = unless_ok (not (has_pins_of old new)) BadPins _ d h4 in
+    let e : record c { insts = with_cell c.insts at to new } ≡ d = cc in
+    subst (λ (x : Circuit). Fits library x.insts) e
+    (fits_swapped library c.insts at to old new fits (or_fault_ok UnknownCell (cell_at library c.insts at) old was) (or_fault_ok UnknownCell (slice_get library to) new is) same)
+
 -- ---- all of them
 
 with_insts : (library : List Cell) (c d : Circuit) → KeepsInsts c d → Keeps library c d
 with_insts library c d h = (h.0, (λ fits. subst (Fits library) (sym h.1) fits))
 
-edit_keeps : (library : List Cell) (c d : Circuit) (e : Edit) → made library c e ≡ Ok d → Keeps library c d
-edit_keeps library c d (edit.Net name) h = with_insts library c d (add_net_keeps c d name h)
-edit_keeps library c d (edit.Const name) h = with_insts library c d (add_const_keeps c d name h)
-edit_keeps library c d (edit.Inst i) h = add_inst_keeps library c d i.name i.cell i.pins h
-edit_keeps library c d (edit.Delay x) h = set_delay_keeps library c d x.inst x.pin x.rise x.fall h
-edit_keeps library c d (edit.Tick t) h = with_insts library c d (set_tick_keeps c d t.source t.target t.count h)
-edit_keeps library c d (edit.Root event) h = with_insts library c d (set_root_keeps c d event true h)
-edit_keeps library c d (edit.Fork f) h = with_insts library c d (add_fork_keeps c d f.name f.root f.fast f.slow f.margin f.offset h)
+-- what holds of every netlist is kept by a netlist that fits, and the fit
+abbrev KeepsFitting : List Cell → Circuit → Circuit → Type 0
+KeepsFitting library c d = (Fits library c.insts → IsNetlist c → IsNetlist d) × (Fits library c.insts → Fits library d.insts)
 
-pub edits_keep_netlists : (library : List Cell) (c changed : Circuit) (e : Edit) → IsNetlist c → made library c e ≡ Ok changed → IsNetlist changed
-edits_keep_netlists library c changed e sound is = (edit_keeps library c changed e is).0 sound
+anyway : (library : List Cell) (c d : Circuit) → Keeps library c d → KeepsFitting library c d
+anyway library c d h = ((λ fits s. h.0 s), h.1)
+
+edit_keeps : (library : List Cell) (c d : Circuit) (e : Edit) → made library c e ≡ Ok d → KeepsFitting library c d
+edit_keeps library c d (edit.Net name) h = anyway library c d (with_insts library c d (add_net_keeps c d name h))
+edit_keeps library c d (edit.Const name) h = anyway library c d (with_insts library c d (add_const_keeps c d name h))
+edit_keeps library c d (edit.Inst i) h = anyway library c d (add_inst_keeps library c d i.name i.cell i.pins h)
+edit_keeps library c d (edit.DelInst name) h = anyway library c d ((λ s. del_inst_sound c d name s h), (λ fits. del_inst_fits library c d name fits h))
+edit_keeps library c d (edit.DelNet name) h = anyway library c d ((λ s. del_net_sound c d name s h), (λ fits. del_net_fits library c d name fits h))
+edit_keeps library c d (edit.Move m) h = ((λ fits s. move_pin_sound library c d m.inst m.pin m.net s fits h), (λ fits. move_pin_fits library c d m.inst m.pin m.net fits h))
+edit_keeps library c d (edit.Swap x) h = ((λ fits s. swap_cell_sound library c d x.inst x.cell s h), (λ fits. swap_cell_fits library c d x.inst x.cell fits h))
+edit_keeps library c d (edit.Delay x) h = anyway library c d (set_delay_keeps library c d x.inst x.pin x.rise x.fall h)
+edit_keeps library c d (edit.Tick t) h = anyway library c d (with_insts library c d (set_tick_keeps c d t.source t.target t.count h))
+edit_keeps library c d (edit.Root event) h = anyway library c d (with_insts library c d (set_root_keeps c d event true h))
+edit_keeps library c d (edit.Fork f) h = anyway library c d (with_insts library c d (add_fork_keeps c d f.name f.root f.fast f.slow f.margin f.offset h))
+edit_keeps library c d (edit.DelFork name) h = anyway library c d (with_insts library c d ((λ s. del_fork_sound c d name s h), del_fork_insts c d name h))
+
+pub edits_keep_netlists : (library : List Cell) (c changed : Circuit) (e : Edit) → IsNetlist c → Fits library c.insts → made library c e ≡ Ok changed → IsNetlist changed
+edits_keep_netlists library c changed e sound fits is = (edit_keeps library c changed e is).0 fits sound
 
 pub edits_keep_fits : (library : List Cell) (c changed : Circuit) (e : Edit) → Fits library c.insts → made library c e ≡ Ok changed → Fits library changed.insts
 edits_keep_fits library c changed e fits is = (edit_keeps library c changed e is).1 fits

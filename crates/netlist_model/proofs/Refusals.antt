@@ -7,12 +7,13 @@ use Rattle.cyc_text.specs.declared.limits.Limit.TheVariants.{Nets, Consts, Forks
 use Rattle.cell_arcs.specs.declared.cells.Cell.{Cell}
 use Rattle.cell_arcs.specs.Steps.{or_else, or_fault, unless_fault, ◌>>=◌}
 use Rattle.netlist_model.specs.Circuit.{Circuit, place_of, ref_of, event_of, inst_of, fork_of, driver_of, tick_of, roots_of}
+use Rattle.netlist_model.specs.Deletions.{is_used, del_inst, del_net, del_fork}
 use Rattle.netlist_model.specs.Edits.{made}
-use Rattle.netlist_model.specs.Statements.{unless, is_ref, add_net, add_const, word_fault, pin_fault, wire_of, wires_of, output_fault, add_inst_of, add_inst, arc_of, cell_at, set_delay, end_tick, start_tick, set_tick, set_root, add_fork_of, add_fork}
+use Rattle.netlist_model.specs.Statements.{unless, is_ref, add_net, add_const, word_fault, pin_fault, wire_of, wires_of, output_fault, add_inst_of, add_inst, arc_of, cell_at, moved_output_fault, move_pin, has_pins_of, swap_cell, set_delay, end_tick, start_tick, set_tick, set_root, add_fork_of, add_fork}
 use Rattle.netlist_model.specs.declared.edits.Edit.{Edit}
 use Rattle.netlist_model.specs.declared.edits.Edit.TheVariants as edit
 use Rattle.netlist_model.specs.declared.faults.StatementFault.{StatementFault}
-use Rattle.netlist_model.specs.declared.faults.StatementFault.TheVariants.{BadName, NameTaken, UnknownNet, UnknownCell, UnknownInst, UnknownPin, BadPins, DriverTaken, NoArc, OutOfRange, TickTaken, UnknownEvent, RootTaken, ForkTaken, TooMany, Memory}
+use Rattle.netlist_model.specs.declared.faults.StatementFault.TheVariants.{BadName, NameTaken, UnknownNet, UnknownCell, UnknownInst, UnknownPin, BadPins, DriverTaken, NoArc, OutOfRange, TickTaken, UnknownEvent, RootTaken, ForkTaken, UnknownFork, StillUsed, TooMany, Memory}
 use Rattle.netlist_model.specs.declared.parts.EventName.{EventName}
 use Rattle.netlist_model.specs.declared.parts.Fork.{Fork}
 use Rattle.netlist_model.specs.declared.parts.Instance.{Instance}
@@ -153,10 +154,63 @@ add_fork_no_want c name root fast slow margin offset =
     bind_no_want _ _ (or_fault_no_want UnknownEvent (event_of c.nets slow) (λ h. cc)) (λ b.
     add_fork_of_no_want c (record { name = name; root = r; fast = a; slow = b; margin = margin; offset = offset }))))))
 
+del_inst_no_want : (c : Circuit) (name : List ℕ) → NoWant (del_inst c name)
+unfolding del_inst
+del_inst_no_want c name = bind_no_want _ _ (or_fault_no_want UnknownInst (inst_of c.insts name) (λ h. cc)) (λ at. tt)
+
+del_fork_no_want : (c : Circuit) (name : List ℕ) → NoWant (del_fork c name)
+unfolding del_fork
+del_fork_no_want c name = bind_no_want _ _ (or_fault_no_want UnknownFork (fork_of c.forks name) (λ h. cc)) (λ at. tt)
+
+del_net_no_want : (c : Circuit) (name : List ℕ) → NoWant (del_net c name)
+unfolding del_net
+del_net_no_want c name =
+    bind_no_want _ _ (or_fault_no_want UnknownNet (ref_of c.nets c.consts name) (λ h. cc)) (λ r.
+    unless_no_want (is_used c r) StillUsed _ (λ h. cc) tt)
+
+moved_none_wants : (insts : List Instance) (at p count : ℕ) (r : NetRef) → NoneWants (if p == count then moved_output_fault insts at r else None)
+moved_none_wants insts at p count r = by (p == count) r
+  where
+    free : (b : Bool) (d : ℕ) → NoneWants (if b then None else Some (DriverTaken (d + 1)))
+    free true d = tt
+    free false d = λ h. cc
+
+    driven : (o : Option ℕ) → NoneWants (option_and_then (λ d. if d == at then None else Some (DriverTaken (d + 1))) o)
+    driven None = tt
+    driven (Some d) = free (d == at) d
+
+    by : (b : Bool) (r : NetRef) → NoneWants (if b then moved_output_fault insts at r else None)
+    by true (Const k) = λ h. cc
+    by true (Net n) = driven (driver_of insts n)
+    by false r = tt
+
+move_pin_no_want : (library : List Cell) (c : Circuit) (inst pin net : List ℕ) → NoWant (move_pin library c inst pin net)
+unfolding move_pin
+move_pin_no_want library c inst pin net =
+    bind_no_want _ _ (or_fault_no_want UnknownInst (inst_of c.insts inst) (λ h. cc)) (λ at.
+    bind_no_want _ _ (or_fault_no_want UnknownCell (cell_at library c.insts at) (λ h. cc)) (λ k.
+    bind_no_want _ _ (or_fault_no_want UnknownPin (place_of pin (k.inputs ++ k.output ∷ [])) (λ h. cc)) (λ p.
+    bind_no_want _ _ (or_fault_no_want UnknownNet (ref_of c.nets c.consts net) (λ h. cc)) (λ r.
+    unless_fault_no_want (if p == length k.inputs then moved_output_fault c.insts at r else None) _ (moved_none_wants c.insts at p (length k.inputs) r) tt))))
+
+swap_cell_no_want : (library : List Cell) (c : Circuit) (inst cell : List ℕ) → NoWant (swap_cell library c inst cell)
+unfolding swap_cell
+swap_cell_no_want library c inst cell =
+    bind_no_want _ _ (or_fault_no_want UnknownInst (inst_of c.insts inst) (λ h. cc)) (λ at.
+    bind_no_want _ _ (or_fault_no_want UnknownCell (cell_at library c.insts at) (λ h. cc)) (λ old.
+    bind_no_want _ _ (or_fault_no_want UnknownCell (position (λ k. bytes_eq cell k.name) library) (λ h. cc)) (λ to.
+    bind_no_want _ _ (or_fault_no_want UnknownCell (slice_get library to) (λ h. cc)) (λ new.
+    unless_no_want (not (has_pins_of old new)) BadPins _ (λ h. cc) tt))))
+
 made_no_want : (library : List Cell) (c : Circuit) (e : Edit) → NoWant (made library c e)
 made_no_want library c (edit.Net name) = add_net_no_want c name
 made_no_want library c (edit.Const name) = add_const_no_want c name
 made_no_want library c (edit.Inst i) = add_inst_no_want library c i.name i.cell i.pins
+made_no_want library c (edit.DelInst name) = del_inst_no_want c name
+made_no_want library c (edit.DelNet name) = del_net_no_want c name
+made_no_want library c (edit.Move m) = move_pin_no_want library c m.inst m.pin m.net
+made_no_want library c (edit.Swap s) = swap_cell_no_want library c s.inst s.cell
+made_no_want library c (edit.DelFork name) = del_fork_no_want c name
 made_no_want library c (edit.Delay d) = set_delay_no_want library c d.inst d.pin d.rise d.fall
 made_no_want library c (edit.Tick t) = set_tick_no_want c t.source t.target t.count
 made_no_want library c (edit.Root event) = set_root_no_want c event true

@@ -5,7 +5,7 @@ use Rattle.std.specs.Str.{bytes_eq}
 use Rattle.std.proofs.lemmas.List.{map-append, length-set}
 use Rattle.std.proofs.lemmas.List.Folds.{position_or_len-set}
 use Rattle.std.proofs.lemmas.Bool.Decides.{nat_tests}
-use Rattle.std.specs.Result.{OnOk, OnErr, IsOk}
+use Rattle.std.specs.Result.{OnOk, OnErr, IsOk, is_ok}
 use Rattle.cell_arcs.specs.Steps.{or_else}
 use Rattle.netlist_model.specs.Circuit.{place_of, driver_of, drives, last_of, is_net, kinds_after, roots_of}
 use Rattle.netlist_model.specs.declared.parts.Fork.{Fork}
@@ -90,3 +90,12 @@ named_pushed f xs x old reserved new name own named same owns is n =
 pub on_err_of : {T E P : Type 0} (r : Result T E) → P → OnErr r P
 on_err_of (Ok x) p = tt
 on_err_of (Err e) p = p
+
+-- the place among the names is the place among what they name
+pub place_among : {A : Type 0} (f : A → List ℕ) (xs now : List A) (names : List (List ℕ)) (name : List ℕ) → names ≡ map f xs → xs ≡ now → place_of name names ≡ position (λ x. bytes_eq name (f x)) now
+place_among f xs now names name named view = ap (place_of name) (named ∙ ap (map f) view) ∙ position-map f (bytes_eq name) now
+
+-- a push that succeeds
+pub pushed_of : {A T E : Type 0} (r : Result T E) (pushed kept : A) → IsOk r → (if is_ok r then pushed else kept) ≡ pushed
+pushed_of (Ok x) pushed kept k = refl
+pushed_of (Err e) pushed kept k = cc

@@ -4,6 +4,9 @@ pub mod Circuit
 pub mod EventNames
 pub mod Edits
 pub mod Statements
+pub mod Deletions
+pub mod LeftOut
 pub mod Expansion
 pub mod Whole
 pub mod Sound
+pub mod Keyed

@@ -1,5 +1,6 @@
 -- Each statement: the first refusal that holds, or the netlist after it.
 use Rattle.std.specs.Prelude.{ℕ, ◌+◌, ◌++◌, ◌==◌, ◌&&◌, Bool, not, nat_lt, nat_le, if◌then◌else◌, List, [], ◌∷◌, length, map, filter, find, Option, Some, None, is_some, is_none, option_and_then, position, slice_get, slice_set, Result, Ok, Err}
+use Rattle.std.specs.Cmp.Lexicographic.{pointwise}
 use Rattle.std.specs.List.{list_any}
 use Rattle.std.specs.Option.{option_map_or}
 use Rattle.std.specs.Str.{bytes_eq}
@@ -110,6 +111,46 @@ set_delay library c inst pin rise fall =
     unless (nat_lt 1000000 rise) (OutOfRange rise)
     (unless (nat_lt 1000000 fall) (OutOfRange fall)
     (Ok (record c { insts = with_delay c.insts at arc rise fall }))))))
+
+-- why the output of the instance at a place may not be moved to this
+abbrev pub moved_output_fault : List Instance → ℕ → NetRef → Option StatementFault
+moved_output_fault insts at (Const k) = Some ConstDriven
+moved_output_fault insts at (Net n) =
+    option_and_then (λ d. if d == at then None else Some (DriverTaken (d + 1))) (driver_of insts n)
+
+-- the instances, the pin at a place of the one at a place on this
+abbrev pub with_pin : List Instance → ℕ → ℕ → NetRef → List Instance
+with_pin insts at pin r =
+    option_map_or (λ i. slice_set insts at (record i { pins = slice_set i.pins pin r })) (slice_get insts at) insts
+
+-- move INST PIN NET; the last of the pins is the output
+unfoldable pub move_pin : List Cell → Circuit → List ℕ → List ℕ → List ℕ → Result Circuit StatementFault
+move_pin library c inst pin net =
+    or_fault UnknownInst (inst_of c.insts inst) >>= (λ at.
+    or_fault UnknownCell (cell_at library c.insts at) >>= (λ k.
+    or_fault UnknownPin (place_of pin (k.inputs ++ k.output ∷ [])) >>= (λ p.
+    or_fault UnknownNet (ref_of c.nets c.consts net) >>= (λ r.
+    unless_fault (if p == length k.inputs then moved_output_fault c.insts at r else None)
+    (Ok (record c { insts = with_pin c.insts at p r }))))))
+
+-- whether the cells have the same input names in the same order and the same output name
+abbrev pub has_pins_of : Cell → Cell → Bool
+has_pins_of old new = pointwise bytes_eq old.inputs new.inputs && bytes_eq old.output new.output
+
+-- the instances, the one at a place of this cell of the library, with its pins as they are and no delays of its own
+abbrev pub with_cell : List Instance → ℕ → ℕ → Cell → List Instance
+with_cell insts at to new =
+    option_map_or (λ i. slice_set insts at (record i { cell = to; delays = map (λ _. None) new.arcs })) (slice_get insts at) insts
+
+-- swap INST CELL
+unfoldable pub swap_cell : List Cell → Circuit → List ℕ → List ℕ → Result Circuit StatementFault
+swap_cell library c inst cell =
+    or_fault UnknownInst (inst_of c.insts inst) >>= (λ at.
+    or_fault UnknownCell (cell_at library c.insts at) >>= (λ old.
+    or_fault UnknownCell (position (λ k. bytes_eq cell k.name) library) >>= (λ to.
+    or_fault UnknownCell (slice_get library to) >>= (λ new.
+    unless (not (has_pins_of old new)) BadPins
+    (Ok (record c { insts = with_cell c.insts at to new }))))))
 
 -- tick EVENT EVENT 0 takes the pair's tick away
 unfoldable pub end_tick : Circuit → ℕ → ℕ → Result Circuit StatementFault

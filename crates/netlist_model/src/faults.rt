@@ -44,6 +44,26 @@ pub enum StatementFault {
     Memory,
 }
 
+/// Why a list of edits is refused. Positions count from 1.
+#[derive(Clone, Copy, Debug, PartialEq, Eq, Drop)]
+pub enum EditFault {
+    /// The edit at this position is the first that is refused.
+    At(usize, StatementFault),
+    /// Memory ran out.
+    Memory,
+}
+
+impl From<AllocError> for EditFault {
+    ghost use Rattle.std.specs.Prelude.{◌≡◌};
+    ghost use Rattle.netlist_model.specs.declared.faults.EditFault.TheVariants.{Memory};
+
+    ghost from_gives = { λ _ e. e ≡ Memory };
+
+    fn from(_e: AllocError) -> EditFault {
+        EditFault::Memory
+    }
+}
+
 impl From<AllocError> for StatementFault {
     ghost use Rattle.std.specs.Prelude.{◌≡◌};
     ghost use Rattle.netlist_model.specs.declared.faults.StatementFault.TheVariants.{Memory};

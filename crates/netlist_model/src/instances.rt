@@ -1,12 +1,18 @@
-ghost use Rattle.std.specs.Prelude.{◌≡◌, ◌++◌, ◌∷◌, [], ◌<◌, None, length, slice_get, Some, OnOk, OnErr, IfSome};
+ghost use Rattle.std.specs.Prelude.{◌≡◌, ◌++◌, ◌∷◌, [], ◌+◌, ◌<◌, ℕ, false, None, length, map, remove, slice_get, slice_set, Some, OnOk, OnErr, IfOk, IfSome};
+ghost use Rattle.std.specs.List.{IsDistinct, list_any};
+ghost use Rattle.std.specs.Option.{option_map_or};
+ghost use Rattle.std.specs.Str.{bytes_eq};
+ghost use Rattle.netlist_model.specs.ArcRules.{HaveOneDriver};
 ghost use Rattle.netlist_model.specs.Circuit.{inst_of, driver_of, last_of};
-ghost use Rattle.netlist_model.specs.Statements.{with_delay};
+ghost use Rattle.netlist_model.specs.Deletions as deletions;
+ghost use Rattle.netlist_model.specs.Deletions.{inst_after};
+ghost use Rattle.netlist_model.specs.Statements.{with_delay, with_pin};
 ghost use Rattle.netlist_model.specs.declared.parts.Instance.{Instance};
 ghost use Rattle.netlist_model.specs.declared.parts.NetRef.TheVariants.{Net};
 
-use crate::keys::{place, put};
-use crate::parts::{Delay, Instance};
-use indexmap::{IndexMap, IndexSet};
+use crate::drivers::{close_up, forget, reach};
+use crate::keys::Keys;
+use crate::parts::{Delay, Delays, Instance, NetRef};
 use std::alloc::{AllocError, Global};
 use std::marker::Model;
 
@@ -14,8 +20,8 @@ use std::marker::Model;
 #[derive(Drop)]
 pub(crate) struct Instances {
     items: Vec<Instance>,
-    names: IndexSet<Vec<u8>>,
-    drivers: IndexMap<u32, usize>,
+    names: Keys,
+    drivers: Vec<Option<usize>>,
 }
 
 impl Model for Instances {
@@ -26,12 +32,12 @@ impl Model for Instances {
 
     ghost view = { λ s. s.items.items };
 
-    ghost use Rattle.std.specs.Prelude.{◌≡◌, ℕ, map, nat_eq};
-    ghost use Rattle.indexmap.specs.IndexMap.{get};
+    ghost use Rattle.std.specs.Prelude.{◌≡◌, ℕ, map};
     ghost use Rattle.netlist_model.specs.Circuit.{driver_of};
+    ghost use Rattle.netlist_model.specs.Keyed.{told_at};
 
-    ghost invariant = { λ s. (map (λ v. v.items) s.names.keys ≡ map (λ i. i.name) s.items.items)
-        × ((n : ℕ) → get nat_eq s.drivers n ≡ driver_of s.items.items n) };
+    ghost invariant = { λ s. (s.names ≡ map (λ i. i.name) s.items.items)
+        × ((n : ℕ) → told_at s.drivers.items n ≡ driver_of s.items.items n) };
 }
 
 impl Instances {
@@ -40,8 +46,8 @@ impl Instances {
     {
         Instances {
             items: Vec::new(alloc),
-            names: IndexSet::new(alloc),
-            drivers: IndexMap::new(alloc),
+            names: Keys::empty(alloc),
+            drivers: Vec::new(alloc),
         }
     }
 
@@ -55,7 +61,8 @@ impl Instances {
         ensures place { result ≡ inst_of self.now name.now }
         ensures within { IfSome result (λ at. at < length self.now) }
     {
-        place(&self.names, name)
+        let _items = &self.items;
+        self.names.find(name)
     }
 
     /// The place of the instance that drives a net.
@@ -63,7 +70,10 @@ impl Instances {
         ensures place { result ≡ driver_of self.now net }
         ensures within { IfSome result (λ at. at < length self.now) }
     {
-        self.drivers.get(&net).copied()
+        match self.drivers.get(net as usize) {
+            Some(driver) => *driver,
+            None => None,
+        }
     }
 
     /// Puts an instance last, whose output is on the net.
@@ -74,13 +84,12 @@ impl Instances {
         ensures ok { OnOk result (self.new ≡ self.old ++ instance ∷ []) }
         ensures err { OnErr result (self.new ≡ self.old) }
     {
-        let name = Vec::from_slice(*self.names.allocator(), instance.name.bytes())?;
-        self.names.reserve(1)?;
-        self.drivers.reserve(1)?;
+        self.items.reserve(1)?;
+        reach(&mut self.drivers, net as usize)?;
+        self.names.push(instance.name.bytes())?;
         let at = self.items.len();
-        self.items.push(instance)?;
-        let _ = put(&mut self.names, name);
-        let _ = self.drivers.insert(net, at);
+        self.drivers[net as usize] = Some(at);
+        let _ = self.items.push(instance);
         Ok(())
     }
 
@@ -93,4 +102,132 @@ impl Instances {
         let instance = &mut self.items[at];
         instance.delays.set(arc, delay);
     }
+
+    /// Takes the instance at a place away. The others keep their order.
+    pub(crate) fn remove(&mut self, at: usize)
+        requires within { at < length self.old }
+        requires differ { IsDistinct bytes_eq (map (λ i. i.name) self.old) }
+        requires driven { HaveOneDriver self.old }
+        ensures { self.new ≡ remove self.old at }
+    {
+        self.names.remove(at);
+        close_up(&mut self.drivers, at);
+        let _ = self.items.remove(at);
+    }
+
+    /// Puts an input of the instance at a place on another net or constant.
+    pub(crate) fn set_input(&mut self, at: usize, pin: usize, to: NetRef)
+        requires within { at < length self.old }
+        requires input { (i : Instance) → slice_get self.old at ≡ Some i → pin + 1 < length i.pins }
+        ensures { self.new ≡ with_pin self.old at pin to }
+    {
+        let instance = &mut self.items[at];
+        instance.pins.set(pin, to);
+    }
+
+    /// Puts the output of the instance at a place on a net that no other instance drives.
+    pub(crate) fn set_output(
+        &mut self,
+        at: usize,
+        pin: usize,
+        old: u32,
+        net: u32,
+    ) -> Result<(), AllocError>
+        requires within { at < length self.old }
+        requires output { (i : Instance) → slice_get self.old at ≡ Some i → (length i.pins ≡ pin + 1) × (last_of i.pins ≡ Some (Net old)) }
+        requires driven { HaveOneDriver self.old }
+        requires free { (k : ℕ) → driver_of self.old net ≡ Some k → k ≡ at }
+        ensures ok { OnOk result (self.new ≡ with_pin self.old at pin (Net net)) }
+        ensures err { OnErr result (self.new ≡ self.old) }
+    {
+        reach(&mut self.drivers, old as usize)?;
+        reach(&mut self.drivers, net as usize)?;
+        self.drivers[old as usize] = None;
+        self.drivers[net as usize] = Some(at);
+        let instance = &mut self.items[at];
+        instance.pins.set(pin, NetRef::Net(net));
+        Ok(())
+    }
+
+    /// Makes the instance at a place one of another cell, with these delays of its own.
+    pub(crate) fn set_cell(&mut self, at: usize, cell: usize, delays: Delays)
+        requires { at < length self.old }
+        ensures { self.new ≡ option_map_or (λ i. slice_set self.old at (record i { cell = cell; delays = delays })) (slice_get self.old at) self.old }
+    {
+        let instance = &mut self.items[at];
+        instance.cell = cell;
+        instance.delays = delays;
+    }
+
+    /// Whether a pin is on the net or constant.
+    pub(crate) fn is_pinned(&self, to: NetRef) -> bool
+        ensures { result ≡ list_any (deletions.is_pinned to) self.now }
+    {
+        self.items.iter().any(|instance| is_pinned(to, instance))
+    }
+
+    /// Moves up what the pins are on, once this net or constant, on which no pin is, is away.
+    pub(crate) fn leave(&mut self, gone: NetRef)
+        requires { list_any (deletions.is_pinned gone) self.old ≡ false }
+        ensures { self.new ≡ map (inst_after gone) self.old }
+    {
+        leave_all(&mut self.items, gone);
+        match gone {
+            NetRef::Net(net) => forget(&mut self.drivers, net as usize),
+            NetRef::Const(_) => {}
+        }
+    }
+
+    /// The same instances in the same order.
+    pub(crate) fn copy(&self) -> Result<Instances, AllocError>
+        requires differ { IsDistinct bytes_eq (map (λ i. i.name) self.now) }
+        requires driven { HaveOneDriver self.now }
+        ensures { IfOk result (λ s. s ≡ self.now) }
+    {
+        let items = copies(*self.items.allocator(), &self.items)?;
+        let names = self.names.copy()?;
+        let drivers = Vec::from_slice(*self.drivers.allocator(), &self.drivers)?;
+        Ok(Instances {
+            items,
+            names,
+            drivers,
+        })
+    }
+}
+
+/// Whether a pin of the instance is on the net or constant.
+fn is_pinned(to: NetRef, instance: &Instance) -> bool
+    ensures { result ≡ deletions.is_pinned to instance.now }
+{
+    instance.pins.list().iter().any(|pin| is_same(to, *pin))
+}
+
+/// Whether they are one net or one constant.
+fn is_same(a: NetRef, b: NetRef) -> bool
+    ensures { result ≡ deletions.is_same a b }
+{
+    match (a, b) {
+        (NetRef::Net(n), NetRef::Net(m)) => n == m,
+        (NetRef::Const(k), NetRef::Const(l)) => k == l,
+        (NetRef::Net(_), NetRef::Const(_)) => false,
+        (NetRef::Const(_), NetRef::Net(_)) => false,
+    }
+}
+
+fn leave_all(items: &mut [Instance], gone: NetRef)
+    ensures { items.new ≡ map (inst_after gone) items.old }
+{
+    for instance in items.iter_mut() {
+        instance.pins.leave(gone);
+    }
+}
+
+fn copies(alloc: Global, items: &[Instance]) -> Result<Vec<Instance>, AllocError>
+    ensures { IfOk result (λ v. v.items ≡ items.now) }
+{
+    let mut copies = Vec::with_capacity(alloc, items.len())?;
+    for instance in items {
+        copies.push(instance.copy()?)?;
+    }
+    Ok(copies)
 }

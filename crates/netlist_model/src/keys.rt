@@ -1,25 +1,115 @@
-// Sets of names that an index finds.
-ghost use Rattle.std.specs.Prelude.{◌≡◌, ◌++◌, ◌∷◌, [], ◌<◌, IsOk, IfSome, None, OnErr, OnOk, length, map};
-ghost use Rattle.indexmap.specs.IndexSet.{spare};
+// Names in order that are found by name.
+ghost use Rattle.std.specs.Prelude.{◌≡◌, ◌++◌, ◌∷◌, [], ◌<◌, IfOk, IfSome, None, OnErr, OnOk, Some, length, remove, slice_get};
+ghost use Rattle.std.specs.List.{IsDistinct};
+ghost use Rattle.std.specs.Str.{bytes_eq};
 ghost use Rattle.netlist_model.specs.Circuit.{place_of};
 
-use indexmap::IndexSet;
-use std::alloc::AllocFailed;
+use indexmap::IndexMap;
+use std::alloc::{AllocError, Global};
+use std::collections::BTreeMap;
+use std::marker::Model;
 
-/// The place of a name.
-pub(crate) fn place(keys: &IndexSet<Vec<u8>>, name: &[u8]) -> Option<usize>
-    ensures place { result ≡ place_of name.now (map (λ v. v.items) keys.now.keys) }
-    ensures within { IfSome result (λ at. at < length keys.now.keys) }
-{
-    keys.get_index_of(name)
+/// Names in order. Each keeps a number of its own while others come and go: an index map holds the names in
+/// order by their numbers, and an ordered map finds the number of a name. So no choice of names makes a look-up
+/// slow, and no key changes where a name is taken away.
+#[derive(Drop)]
+pub(crate) struct Keys {
+    names: IndexMap<u64, Vec<u8>>,
+    numbers: BTreeMap<Vec<u8>, u64>,
+    next: u64,
 }
 
-/// Puts a new name last.
-pub(crate) fn put(keys: &mut IndexSet<Vec<u8>>, name: Vec<u8>) -> Result<bool, AllocFailed<Vec<u8>>>
-    requires { place_of name.items (map (λ v. v.items) keys.old.keys) ≡ None }
-    ensures ok { OnOk result (map (λ v. v.items) keys.new.keys ≡ map (λ v. v.items) keys.old.keys ++ name.items ∷ []) }
-    ensures err { OnErr result (keys.new.keys ≡ keys.old.keys) }
-    ensures succeeds { 0 < spare keys.old → IsOk result }
-{
-    keys.insert(name)
+impl Model for Keys {
+    ghost use Rattle.std.specs.Prelude.{List, ℕ, map};
+    ghost use Rattle.std.specs.BTreeMap.{get_by};
+    ghost use Rattle.std.specs.Cmp.Lexicographic.{slice_cmp};
+    ghost use Rattle.std.specs.Map.{keys_of};
+    ghost use Rattle.std.specs.Ordering.{nat_cmp};
+    ghost use Rattle.netlist_model.specs.Keyed.{IsKeyed};
+
+    ghost Value = { List (List ℕ) };
+
+    ghost view = { λ k. map (λ e. e.1.items) k.names.entries };
+
+    ghost invariant = { λ k. IsKeyed (map (λ e. e.1.items) k.names.entries) (keys_of k.names.entries)
+        (λ name. get_by (λ v. slice_cmp nat_cmp name v.items) k.numbers) k.next };
+}
+
+impl Keys {
+    pub(crate) fn empty(alloc: Global) -> Keys
+        ensures { result ≡ [] }
+    {
+        Keys {
+            names: IndexMap::new(alloc),
+            numbers: BTreeMap::new(alloc),
+            next: 0,
+        }
+    }
+
+    pub(crate) fn count(&self) -> usize
+        ensures { result ≡ length self.now }
+    {
+        self.names.len()
+    }
+
+    /// The place of a name.
+    pub(crate) fn find(&self, name: &[u8]) -> Option<usize>
+        ensures place { result ≡ place_of name.now self.now }
+        ensures within { IfSome result (λ at. at < length self.now) }
+    {
+        match self.numbers.get(name) {
+            Some(number) => self.names.get_index_of(number),
+            None => None,
+        }
+    }
+
+    /// The name at a place.
+    pub(crate) fn name(&self, at: usize) -> &[u8]
+        requires { at < length self.now }
+        ensures { slice_get self.now at ≡ Some result.now }
+    {
+        &self.names[at]
+    }
+
+    /// Puts a new name last.
+    pub(crate) fn push(&mut self, name: &[u8]) -> Result<(), AllocError>
+        requires { place_of name.now self.old ≡ None }
+        ensures ok { OnOk result (self.new ≡ self.old ++ name.now ∷ []) }
+        ensures err { OnErr result (self.new ≡ self.old) }
+    {
+        let number = self.next;
+        let Some(next) = number.checked_add(1) else {
+            return Err(AllocError);
+        };
+        let alloc = *self.names.allocator();
+        let key = Vec::from_slice(alloc, name)?;
+        let kept = Vec::from_slice(alloc, name)?;
+        self.names.reserve(1)?;
+        self.numbers.insert(key, number)?;
+        let _ = self.names.insert(number, kept);
+        self.next = next;
+        Ok(())
+    }
+
+    /// Takes the name at a place away. The others keep their order.
+    pub(crate) fn remove(&mut self, at: usize)
+        requires within { at < length self.old }
+        requires differ { IsDistinct bytes_eq self.old }
+        ensures { self.new ≡ remove self.old at }
+    {
+        let _ = self.numbers.remove(self.names[at].as_slice());
+        let _ = self.names.shift_remove_index(at);
+    }
+
+    /// The same names in the same order.
+    pub(crate) fn copy(&self) -> Result<Keys, AllocError>
+        requires { IsDistinct bytes_eq self.now }
+        ensures { IfOk result (λ k. k ≡ self.now) }
+    {
+        let mut copy = Keys::empty(*self.names.allocator());
+        for at in 0..self.count() {
+            copy.push(self.name(at))?;
+        }
+        Ok(copy)
+    }
 }

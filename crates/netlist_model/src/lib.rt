@@ -2,6 +2,7 @@
 #![tactic(auto)]
 
 mod counting;
+mod drivers;
 mod edits;
 mod faults;
 mod forks;
@@ -10,6 +11,7 @@ mod keys;
 pub mod laws;
 mod names;
 mod netlist;
+mod pairs;
 mod parts;
 #[cfg(test)]
 mod tests;
@@ -17,7 +19,7 @@ mod ticks;
 mod whole;
 mod wiring;
 
-pub use edits::{DelayOf, Edit, ForkText, InstOf, TickOf};
-pub use faults::{StatementFault, WholeFault};
+pub use edits::{DelayOf, Edit, Edits, ForkText, InstOf, MoveOf, SwapOf, TickOf};
+pub use faults::{EditFault, StatementFault, WholeFault};
 pub use netlist::Netlist;
 pub use parts::{Delay, Delays, EventName, Fork, Instance, NetRef, NetRefs, PinNet, PinNets, Tick};

@@ -1,25 +1,26 @@
-ghost use Rattle.std.specs.Prelude.{◌≡◌, ◌++◌, ◌∷◌, [], ◌<◌, None, length, slice_get, Some, OnOk, OnErr, IfSome};
+ghost use Rattle.std.specs.Prelude.{◌≡◌, ◌++◌, ◌∷◌, [], ◌<◌, IfOk, None, length, remove, slice_get, Some, OnOk, OnErr, IfSome};
+ghost use Rattle.std.specs.List.{IsDistinct};
+ghost use Rattle.std.specs.Str.{bytes_eq};
 ghost use Rattle.netlist_model.specs.Circuit.{place_of};
 
-use crate::keys::{place, put};
-use indexmap::IndexSet;
+use crate::keys::Keys;
 use std::alloc::{AllocError, Global};
 use std::marker::Model;
 
 /// Names in order, with their places: at most 16,384.
 #[derive(Drop)]
 pub(crate) struct Names {
-    set: IndexSet<Vec<u8>>,
+    keys: Keys,
 }
 
 impl Model for Names {
-    ghost use Rattle.std.specs.Prelude.{List, ℕ, map, length, ◌≤◌};
+    ghost use Rattle.std.specs.Prelude.{List, ℕ, length, ◌≤◌};
 
     ghost Value = { List (List ℕ) };
 
-    ghost view = { λ n. map (λ v. v.items) n.set.keys };
+    ghost view = { λ n. n.keys };
 
-    ghost invariant = { λ n. length n.set.keys ≤ 16384 };
+    ghost invariant = { λ n. length n.keys ≤ 16384 };
 }
 
 impl Names {
@@ -27,14 +28,14 @@ impl Names {
         ensures { result ≡ [] }
     {
         Names {
-            set: IndexSet::new(alloc),
+            keys: Keys::empty(alloc),
         }
     }
 
     pub(crate) fn count(&self) -> usize
         ensures { result ≡ length self.now }
     {
-        self.set.len()
+        self.keys.count()
     }
 
     pub(crate) fn find(&self, name: &[u8]) -> Option<u32>
@@ -42,7 +43,7 @@ impl Names {
         ensures within { IfSome result (λ at. at < length self.now) }
         ensures small { IfSome result (λ at. at < 16384) }
     {
-        match place(&self.set, name) {
+        match self.keys.find(name) {
             Some(at) => Some(at as u32),
             None => None,
         }
@@ -52,7 +53,7 @@ impl Names {
         requires { at < length self.now }
         ensures { slice_get self.now at ≡ Some result.now }
     {
-        &self.set.as_slice()[at]
+        self.keys.name(at)
     }
 
     pub(crate) fn push(&mut self, name: &[u8]) -> Result<(), AllocError>
@@ -61,8 +62,25 @@ impl Names {
         ensures ok { OnOk result (self.new ≡ self.old ++ name.now ∷ []) }
         ensures err { OnErr result (self.new ≡ self.old) }
     {
-        let name = Vec::from_slice(*self.set.allocator(), name)?;
-        put(&mut self.set, name)?;
-        Ok(())
+        self.keys.push(name)
+    }
+
+    /// Takes the name at a place away. The others keep their order.
+    pub(crate) fn remove(&mut self, at: usize)
+        requires within { at < length self.old }
+        requires differ { IsDistinct bytes_eq self.old }
+        ensures { self.new ≡ remove self.old at }
+    {
+        self.keys.remove(at);
+    }
+
+    /// The same names in the same order.
+    pub(crate) fn copy(&self) -> Result<Names, AllocError>
+        requires { IsDistinct bytes_eq self.now }
+        ensures { IfOk result (λ n. n ≡ self.now) }
+    {
+        Ok(Names {
+            keys: self.keys.copy()?,
+        })
     }
 }

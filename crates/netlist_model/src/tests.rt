@@ -1,6 +1,8 @@
 ghost use Rattle.netlist_model.specs.Sound.{Fits};
 
-use crate::{DelayOf, Edit, EventName, ForkText, InstOf, Netlist, PinNet, PinNets, TickOf};
+use crate::{
+    DelayOf, Edit, EventName, ForkText, InstOf, MoveOf, Netlist, PinNet, PinNets, SwapOf, TickOf,
+};
 use cell_arcs::Library;
 use cyc_text::Text;
 use std::alloc::{AllocError, Global};
@@ -60,6 +62,72 @@ fork g A+ Q+ B- 1000001 1 => Err(UnknownEvent)
 fork g A+ A+ B- 1000001 16 => Err(OutOfRange(1000001))
 fork g A+ A+ B- 1 16 => Err(OutOfRange(16))
 ? stands => [2, 1, 2, 1, 1]";
+
+/// Statements that move pins, swap cells and take away, on two paths round a ring behind a net that nothing uses.
+const DELETIONS: &str = "\
+net U => Ok(())
+net A => Ok(())
+net B => Ok(())
+net C => Ok(())
+net D => Ok(())
+net P => Ok(())
+const k => Ok(())
+const rst => Ok(())
+inst i1 INV A=A Z=B => Ok(())
+inst i2 INV A=B Z=C => Ok(())
+inst i4 INV A=B Z=D => Ok(())
+inst i3 NOR2 A=C B=rst Z=A => Ok(())
+tick C- A+ 1 => Ok(())
+tick P- A+ 2 => Ok(())
+tick A+ P- 3 => Ok(())
+root P+ => Ok(())
+fork f A+ C+ A- 0 0 => Ok(())
+fork g A+ A+ P- 0 0 => Ok(())
+move i9 Q Q => Err(UnknownInst)
+move i3 Q Q => Err(UnknownPin)
+move i3 B Q => Err(UnknownNet)
+move i3 Z rst => Err(ConstDriven)
+move i3 Z B => Err(DriverTaken(1))
+move i3 Z A => Ok(())
+move i3 Z P => Ok(())
+inst i5 INV A=A Z=P => Err(DriverTaken(4))
+move i3 Z A => Ok(())
+move i3 B D => Ok(())
+swap i9 XOR => Err(UnknownInst)
+swap i3 XOR => Err(UnknownCell)
+swap i3 INV => Err(BadPins)
+delay i3 B 5 5 => Ok(())
+swap i3 NOR2 => Ok(())
+delnet Q => Err(UnknownNet)
+delnet rst => Ok(())
+const rst => Ok(())
+move i3 B rst => Ok(())
+delnet rst => Err(StillUsed)
+delnet k => Ok(())
+move i3 B C => Ok(())
+delnet rst => Ok(())
+delnet P => Err(StillUsed)
+tick A+ P- 0 => Ok(())
+delnet P => Err(StillUsed)
+tick P- A+ 0 => Ok(())
+delnet P => Err(StillUsed)
+root A+ => Ok(())
+delnet P => Err(StillUsed)
+delfork h => Err(UnknownFork)
+delfork g => Ok(())
+delnet P => Ok(())
+delnet D => Err(StillUsed)
+delinst i9 => Err(UnknownInst)
+delinst i4 => Ok(())
+delnet D => Ok(())
+delnet U => Ok(())
+delnet A => Err(StillUsed)
+? offset C- A+ => 1
+inst i5 INV A=A Z=A => Err(DriverTaken(3))
+? stands => [3, 0, 3, 1, 1]
+? copy => [3, 0, 3, 1, 1]
+? whole => Ok(())
+? rules => 8";
 
 /// A netlist with nothing in it.
 const NOTHING: &str = "? whole => Err(NoRoot)";
@@ -200,6 +268,21 @@ fn tick(alloc: Global, words: &str) -> Result<Edit, Fail> {
     }))
 }
 
+fn pin_move(alloc: Global, words: &str) -> Result<Edit, Fail> {
+    let mut words = words.split(' ');
+    let inst = text(alloc, words.next())?;
+    let pin = text(alloc, words.next())?;
+    let net = text(alloc, words.next())?;
+    Ok(Edit::Move(MoveOf { inst, pin, net }))
+}
+
+fn swap(alloc: Global, words: &str) -> Result<Edit, Fail> {
+    let mut words = words.split(' ');
+    let inst = text(alloc, words.next())?;
+    let cell = text(alloc, words.next())?;
+    Ok(Edit::Swap(SwapOf { inst, cell }))
+}
+
 fn edit_of(alloc: Global, line: &str) -> Result<Edit, Fail> {
     let (kind, words) = line.split_once(' ').ok_or("no statement")?;
     match kind {
@@ -209,6 +292,11 @@ fn edit_of(alloc: Global, line: &str) -> Result<Edit, Fail> {
         "delay" => delay(alloc, words),
         "tick" => tick(alloc, words),
         "root" => Ok(Edit::Root(event(alloc, Some(words))?)),
+        "delinst" => Ok(Edit::DelInst(text(alloc, Some(words))?)),
+        "delnet" => Ok(Edit::DelNet(text(alloc, Some(words))?)),
+        "delfork" => Ok(Edit::DelFork(text(alloc, Some(words))?)),
+        "move" => pin_move(alloc, words),
+        "swap" => swap(alloc, words),
         _ => fork(alloc, words),
     }
 }
@@ -248,6 +336,7 @@ fn asked(
         "whole" => Ok(format!(in alloc; "{:?}", netlist.check_whole(library))?),
         "rules" => Ok(format!(in alloc; "{}", netlist.rule_count(library))?),
         "stands" => Ok(format!(in alloc; "{:?}", counts(netlist))?),
+        "copy" => Ok(format!(in alloc; "{:?}", counts(&netlist.copy()?))?),
         _ => Ok(format!(in alloc; "{}", offset(alloc, netlist, question)?)?),
     }
 }
@@ -303,6 +392,10 @@ fn first_wrong<'a>(
 /// The first line of all rows on small netlists that answers something else than it says.
 fn first_wrong_of_all(alloc: Global, library: &Library) -> Result<Option<&'static str>, Fail> {
     let wrong = first_wrong(alloc, library, STATEMENTS)?;
+    if wrong.is_some() {
+        return Ok(wrong);
+    }
+    let wrong = first_wrong(alloc, library, DELETIONS)?;
     if wrong.is_some() {
         return Ok(wrong);
     }

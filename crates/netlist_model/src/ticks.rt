@@ -1,30 +1,25 @@
-ghost use Rattle.std.specs.Prelude.{◌≡◌, ◌++◌, ◌∷◌, [], ◌<◌, ◌≤◌, false, true, ◌+◌, length, map, not, filter, slice_get, Some, is_some, IfOk, OnOk, OnErr};
-ghost use Rattle.std.specs.List.{flat_map};
-ghost use Rattle.netlist_model.specs.Blocks.{Grown, PutLast};
+ghost use Rattle.std.specs.Prelude.{◌≡◌, ◌++◌, ◌∷◌, [], ◌<◌, ◌≤◌, false, true, ◌+◌, length, map, not, filter, slice_get, Some, is_some, IfOk, IfSome, OnOk, OnErr};
+ghost use Rattle.std.specs.List.{flat_map, list_any};
+ghost use Rattle.std.specs.Vec.{vec_capacity, vec_len};
+ghost use Rattle.netlist_model.specs.Blocks.{Grown};
+ghost use Rattle.netlist_model.specs.Deletions as deletions;
 ghost use Rattle.netlist_model.specs.Circuit.{is_between, tick_of};
 ghost use Rattle.netlist_model.specs.Expansion.{offset_of};
 
-use crate::parts::Tick;
-use indexmap::IndexMap;
+use crate::pairs::{Pairs, Place};
+use crate::parts::{Tick, event_after};
 use std::alloc::{AllocError, Global};
 use std::marker::Model;
 
 /// How many ticks a block takes before the next one is begun.
 const BLOCK: usize = 1024;
 
-/// The block of a tick, and the tick's count.
-#[derive(Clone, Copy)]
-struct Place {
-    block: usize,
-    count: u32,
-}
-
 /// Ticks in order. They lie in blocks, so that one is taken away without a move of all that follow it.
 /// A pair of events finds the block of its tick, and the tick's count.
 #[derive(Drop)]
 pub(crate) struct Ticks {
     blocks: Vec<Vec<Tick>>,
-    places: IndexMap<(u32, u32), Place>,
+    pairs: Pairs,
     count: usize,
 }
 
@@ -32,16 +27,16 @@ impl Model for Ticks {
     ghost use Rattle.std.specs.Prelude.{List, length, map, option_map, ◌≡◌};
     ghost use Rattle.std.specs.List.{flat_map};
     ghost use Rattle.netlist_model.specs.declared.parts.Tick.{Tick};
-    ghost use Rattle.netlist_model.specs.Blocks.{IsIndexed, TellsCounts, pair_eq};
-    ghost use Rattle.indexmap.specs.IndexMap.{get};
+    ghost use Rattle.netlist_model.specs.Blocks.{IsIndexed, TellsCounts};
+    ghost use Rattle.netlist_model.specs.Keyed.{told_of};
 
     ghost Value = { List Tick };
 
     ghost view = { λ t. flat_map (λ b. b) (map (λ b. b.items) t.blocks.items) };
 
     ghost invariant = { λ t. (t.count ≡ length (flat_map (λ b. b) (map (λ b. b.items) t.blocks.items)))
-        × IsIndexed (map (λ b. b.items) t.blocks.items) (λ s e. option_map (λ p. p.block) (get pair_eq t.places (s, e)))
-        × TellsCounts (flat_map (λ b. b) (map (λ b. b.items) t.blocks.items)) (λ s e. option_map (λ p. p.count) (get pair_eq t.places (s, e))) };
+        × IsIndexed (map (λ b. b.items) t.blocks.items) (λ s e. option_map (λ p. p.block) (told_of t.pairs s e))
+        × TellsCounts (flat_map (λ b. b) (map (λ b. b.items) t.blocks.items)) (λ s e. option_map (λ p. p.count) (told_of t.pairs s e)) };
 }
 
 impl Ticks {
@@ -50,7 +45,7 @@ impl Ticks {
     {
         Ticks {
             blocks: Vec::new(alloc),
-            places: IndexMap::new(alloc),
+            pairs: Pairs::empty(alloc),
             count: 0,
         }
     }
@@ -74,14 +69,14 @@ impl Ticks {
     pub(crate) fn has(&self, source: u32, target: u32) -> bool
         ensures { result ≡ is_some (tick_of self.now source target) }
     {
-        self.places.contains_key(&(source, target))
+        self.pairs.find(source, target).is_some()
     }
 
     /// The count of the tick of a pair of events, or 0 where they have none.
     pub(crate) fn offset(&self, source: u32, target: u32) -> u32
         ensures { result ≡ offset_of self.now source target }
     {
-        match self.places.get(&(source, target)) {
+        match self.pairs.find(source, target) {
             Some(place) => place.count,
             None => 0,
         }
@@ -104,13 +99,14 @@ impl Ticks {
         let Some(count) = self.count.checked_add(1) else {
             return Err(AllocError);
         };
-        self.places.reserve(1)?;
-        let block = put_last(&mut self.blocks, tick)?;
+        let block = make_room(&mut self.blocks)?;
         let place = Place {
             block,
             count: tick.count,
         };
-        let _ = self.places.insert((tick.source, tick.target), place);
+        self.pairs.insert(tick.source, tick.target, place)?;
+        let last = &mut self.blocks[block];
+        let _ = last.push(tick);
         self.count = count;
         Ok(())
     }
@@ -119,13 +115,109 @@ impl Ticks {
     pub(crate) fn remove(&mut self, source: u32, target: u32)
         ensures { self.new ≡ filter (λ t. not (is_between source target t)) self.old }
     {
-        let Some(place) = self.places.swap_remove(&(source, target)) else {
+        let Some(place) = self.pairs.remove(source, target) else {
             return;
         };
         let at = place.block;
         let gone = take_from(&mut self.blocks[at], source, target);
         self.count -= gone;
     }
+
+    /// Whether an event of a tick is of the net.
+    pub(crate) fn is_ticked(&self, net: u32) -> bool
+        ensures { result ≡ list_any (deletions.is_ticked net) self.now }
+    {
+        any_ticked(net, &self.blocks)
+    }
+
+    /// Moves up the events, once a net that no tick is of is away.
+    pub(crate) fn leave(&mut self, gone: u32)
+        requires { list_any (deletions.is_ticked gone) self.old ≡ false }
+        ensures { self.new ≡ map (deletions.tick_after gone) self.old }
+    {
+        self.pairs.leave(gone);
+        leave_blocks(&mut self.blocks, gone);
+    }
+
+    /// The same ticks in the same order.
+    pub(crate) fn copy(&self) -> Result<Ticks, AllocError>
+        ensures { IfOk result (λ t. t ≡ self.now) }
+    {
+        Ok(Ticks {
+            blocks: copies(*self.blocks.allocator(), &self.blocks)?,
+            pairs: self.pairs.copy()?,
+            count: self.count,
+        })
+    }
+}
+
+/// Whether an event of the tick is of the net.
+fn is_ticked(net: u32, tick: &Tick) -> bool
+    ensures { result ≡ deletions.is_ticked net tick.now }
+{
+    net == tick.source / 2 || net == tick.target / 2
+}
+
+fn has_ticked(net: u32, ticks: &[Tick]) -> bool
+    ensures { result ≡ list_any (deletions.is_ticked net) ticks.now }
+{
+    ticks.iter().any(|tick| is_ticked(net, tick))
+}
+
+/// Whether an event of a tick of the blocks is of the net.
+fn any_ticked(net: u32, blocks: &[Vec<Tick>]) -> bool
+    ensures { result ≡ list_any (deletions.is_ticked net) (flat_map (λ b. b) (map (λ b. b.items) blocks.now)) }
+{
+    for block in blocks {
+        if has_ticked(net, block) {
+            return true;
+        }
+    }
+    false
+}
+
+/// A tick, once a net is away.
+fn tick_after(gone: u32, tick: Tick) -> Tick
+    ensures { result ≡ deletions.tick_after gone tick }
+{
+    Tick {
+        source: event_after(gone, tick.source),
+        target: event_after(gone, tick.target),
+        count: tick.count,
+    }
+}
+
+fn leave_ticks(ticks: &mut [Tick], gone: u32)
+    ensures { ticks.new ≡ map (deletions.tick_after gone) ticks.old }
+{
+    for tick in ticks.iter_mut() {
+        *tick = tick_after(gone, *tick);
+    }
+}
+
+/// Moves up the events of a block.
+fn leave_block(block: &mut Vec<Tick>, gone: u32)
+    ensures { block.new.items ≡ map (deletions.tick_after gone) block.old.items }
+{
+    leave_ticks(block, gone);
+}
+
+fn leave_blocks(blocks: &mut [Vec<Tick>], gone: u32)
+    ensures { map (λ b. b.items) blocks.new ≡ map (map (deletions.tick_after gone)) (map (λ b. b.items) blocks.old) }
+{
+    for block in blocks.iter_mut() {
+        leave_block(block, gone);
+    }
+}
+
+fn copies(alloc: Global, blocks: &[Vec<Tick>]) -> Result<Vec<Vec<Tick>>, AllocError>
+    ensures { IfOk result (λ v. map (λ b. b.items) v.items ≡ map (λ b. b.items) blocks.now) }
+{
+    let mut copies = Vec::with_capacity(alloc, blocks.len())?;
+    for block in blocks {
+        copies.push(Vec::from_slice(alloc, block)?)?;
+    }
+    Ok(copies)
 }
 
 /// Whether the tick is the one of a pair of events.
@@ -145,17 +237,18 @@ fn take_from(block: &mut Vec<Tick>, source: u32, target: u32) -> usize
     before - block.len()
 }
 
-/// Puts a tick at the end of the last block, or of a new one where that is full, and says which block it is.
-fn put_last(blocks: &mut Vec<Vec<Tick>>, tick: Tick) -> Result<usize, AllocError>
-    ensures ok { IfOk result (λ k. PutLast (map (λ b. b.items) blocks.old.items) (map (λ b. b.items) blocks.new.items) k tick) }
-    ensures err { OnErr result (Grown (map (λ b. b.items) blocks.old.items) (map (λ b. b.items) blocks.new.items)) }
+/// Makes room for a tick at the end of the last block, or of a new one where that is full, and says which block it is.
+fn make_room(blocks: &mut Vec<Vec<Tick>>) -> Result<usize, AllocError>
+    ensures grown { Grown (map (λ b. b.items) blocks.old.items) (map (λ b. b.items) blocks.new.items) }
+    ensures last { IfOk result (λ k. k + 1 ≡ length blocks.new.items) }
+    ensures room { IfOk result (λ k. IfSome (slice_get blocks.new.items k) (λ b. vec_len b < vec_capacity b)) }
 {
     if !has_room(blocks) {
         let block = Vec::with_capacity(*blocks.allocator(), BLOCK)?;
         blocks.push(block)?;
     }
     let last = blocks.len() - 1;
-    blocks[last].push(tick)?;
+    blocks[last].reserve(1)?;
     Ok(last)
 }
 

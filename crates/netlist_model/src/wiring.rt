@@ -140,7 +140,7 @@ pub(crate) fn no_delays(alloc: Global, arcs: &[CellArc]) -> Result<Vec<Option<De
 
 /// The place of a pin among the inputs and then the output of a cell.
 #[tactic(auto, using(crate::proofs::Places::position_push))]
-fn pin_at(cell: &Cell, pin: &[u8]) -> Option<usize>
+pub(crate) fn pin_at(cell: &Cell, pin: &[u8]) -> Option<usize>
     ensures { result ≡ circuit.place_of pin.now (cell.now.inputs ++ cell.now.output ∷ []) }
 {
     let inputs = cell.inputs.list();

@@ -1,15 +1,14 @@
 -- What is written as a word is a word.
-use Rattle.std.proofs.Common.{◌≡◌, ℕ, ◌<◌, ◌≤◌, zero, suc, List, [], ◌∷◌, ◌++◌, ◌||◌, ◌&&◌, length, get_or, true, false, not, Some, refl, ap, arith, inl, inr, ◌≢◌}
+use Rattle.std.proofs.Common.{◌≡◌, ℕ, ◌<◌, ◌≤◌, zero, suc, List, [], ◌∷◌, ◌++◌, ◌&&◌, length, get_or, true, false, not, refl, arith, ◌≢◌}
 use Rattle.std.specs.Prelude.{◌==◌, nat_le, decimal}
 use Rattle.std.specs.List.{list_any, list_all, join_with_byte}
-use Rattle.std.specs.Char.{is_ascii_digit, IsAsciiDigit}
+use Rattle.std.specs.Char.{IsAsciiDigit}
 use Rattle.std.specs.Str.Parse.{AllDigits}
 use Rattle.std.proofs.lemmas.Str.Parse.{tells_digits}
-use Rattle.std.proofs.lemmas.Fmt.{decimal_is_IsNumeral, length-decimal-le, first_decimal, decimal_digit}
-use Rattle.std.proofs.lemmas.Bool.{and_parts, and_from, or_from, or_right, ne_eqb, le-leb, not_from_false, cases_lt}
+use Rattle.std.proofs.lemmas.Fmt.{decimal_is_IsNumeral}
+use Rattle.std.proofs.lemmas.Bool.{and_parts, or_from}
 use Rattle.std.proofs.lemmas.Bool.Decides.{nat_tests}
 use Rattle.cyc_text.specs.Name.{is_name, is_name_byte}
-use Rattle.cyc_text.specs.Number.{number_test, number_of}
 use Rattle.cyc_text.specs.ReadBack.{IsWord, IsLine}
 use Rattle.cyc_text.specs.Words.{ends_word, is_newline}
 
@@ -97,40 +96,14 @@ solid_line words h =
     record { whole = visible_whole (join_with_byte 32 words) seen; no_return = no_return (join_with_byte 32 words) _ seen }
 
 -- numbers
-digit_high : (c : ℕ) → IsAsciiDigit c → (35 < c) × (is_ascii_digit c ≡ true)
-digit_high c d = (omega (arith, d), grind (arith, nat_tests))
-
-digits_high : (word : List ℕ) → AllDigits 10 word → EachHigh word × (list_all is_ascii_digit word ≡ true)
-digits_high [] h = (tt, refl)
+digits_high : (word : List ℕ) → AllDigits 10 word → EachHigh word
+digits_high [] h = tt
 digits_high (x ∷ xs) h =
     let parts = tells_digits.parts x xs h in
-    let here = digit_high x parts.0 in
-    let more = digits_high xs parts.1 in
-    ((here.0, more.0), and_from (is_ascii_digit x) (list_all is_ascii_digit xs) here.1 more.1)
-
--- a number of one digit, or one that does not begin with a zero
-no_leading_zero : (n : ℕ) → n ≤ 1000000 → (length (decimal n) == 1 || not (get_or (decimal n) 0 0 == 48)) ≡ true
-no_leading_zero n small =
-    elim (cases_lt n 10) [
-      | inl one ↦ rw (decimal_digit n one) refl
-      | inr more ↦
-          let first = first_decimal n (omega arith) (omega arith) in
-          or_right (length (decimal n) == 1) (not (get_or (decimal n) 0 0 == 48)) (not_from_false (get_or (decimal n) 0 0 == 48) (ne_eqb (get_or (decimal n) 0 0) 48 (λ e. omega arith)))
-    ]
-
-number_passes : (n : ℕ) → n ≤ 1000000 → number_test (decimal n) ≡ true
-unfolding number_test
-number_passes n small =
-    let is = decimal_is_IsNumeral n (omega arith) in
-    let short : length (decimal n) ≤ 7 = length-decimal-le 7 n (omega arith) (omega arith) (omega arith) in
-    and_from _ _ (and_from _ _ (and_from _ _ (le-leb 1 (length (decimal n)) (omega (arith, is.0.0))) (le-leb (length (decimal n)) 19 (omega arith))) (digits_high (decimal n) is.0.1).1) (no_leading_zero n small)
-
--- a number is read back
-pub number_read : (n : ℕ) → n ≤ 1000000 → number_of (decimal n) ≡ Some n
-unfolding number_of
-number_read n small = rw (number_passes n small) (ap Some (decimal_is_IsNumeral n (omega arith)).1)
+    let here : IsAsciiDigit x = parts.0 in
+    (omega (arith, here), digits_high xs parts.1)
 
 pub number_solid : (n : ℕ) → n ≤ 1000000 → IsSolid (decimal n)
 number_solid n small =
     let is = decimal_is_IsNumeral n (omega arith) in
-    record { some = omega (arith, is.0.0); high = (digits_high (decimal n) is.0.1).0 }
+    record { some = omega (arith, is.0.0); high = digits_high (decimal n) is.0.1 }

@@ -160,6 +160,7 @@ inst_step library c done i more k sound s e at fit =
     record {
       edit = Inst (record { name = i.name; cell = k.name; pins = named_pins c.nets c.consts (k.inputs ++ k.output ∷ []) i.pins });
       says = inst_said c i k cell.names;
+      allowed = refl;
       does = inst_added library c (map bare done) i k (named_pins c.nets c.consts (k.inputs ++ k.output ∷ []) i.pins) _ is.named fresh (cell_found library i.cell k sound at) at made;
       solid = inst_solid c i k s cell is.named is.pins;
     }

@@ -1,5 +1,5 @@
 -- How lines lead from one netlist to another.
-use Rattle.std.proofs.Common.{◌≡◌, ℕ, false, ◌+◌, List, [], ◌∷◌, ◌++◌, length, map, Some, None, Ok, refl, sym, ap, subst, arith, All}
+use Rattle.std.proofs.Common.{◌≡◌, ℕ, true, false, ◌+◌, List, [], ◌∷◌, ◌++◌, length, map, Some, None, Ok, refl, sym, ap, subst, arith, All}
 use Rattle.std.specs.Prelude.{◌==◌}
 use Rattle.std.specs.List.{join_with_byte}
 use Rattle.std.proofs.lemmas.Bool.Decides.{nat_tests}
@@ -8,15 +8,16 @@ use Rattle.cyc_text.specs.ReadBack.{IsWord, IsLine, WordsReadBack, LinesReadBack
 use Rattle.cell_arcs.specs.declared.cells.Cell.{Cell}
 use Rattle.netlist_model.specs.Circuit.{Circuit, nothing}
 use Rattle.netlist_model.specs.declared.edits.Edit.{Edit}
-use Rattle.netlist_reader.specs.Canonical.{lines_text}
+use Rattle.cyc_text.specs.Written.{lines_text}
 use Rattle.netlist_reader.specs.EditLines.{edit_of}
-use Rattle.netlist_reader.specs.NetlistFiles.{after_words, after_lines, stated, netlist_of}
+use Rattle.netlist_reader.specs.NetlistFiles.{after_words, after_lines, is_in_file, stated, netlist_of}
 use Rattle.netlist_reader.proofs.Bytes.{EachSolid, solid_word, solid_line}
 
 -- a line's statement makes the one netlist the other
 pub record IsStep (library : List Cell) (words : List (List ℕ)) (c d : Circuit) : Type 0 where
   pub edit : Edit
   pub says : edit_of words ≡ Some edit
+  pub allowed : is_in_file edit ≡ true
   pub does : stated library c edit ≡ Ok d
   pub solid : EachSolid words
 
@@ -33,12 +34,12 @@ no_edit : (e : Edit) → edit_of [] ≡ Some e → ⊥
 unfolding edit_of
 no_edit e h = let same : None ≡ Some e = h in cc
 
-step_taken : (library : List Cell) (n : ℕ) (words : List (List ℕ)) (c d : Circuit) (e : Edit) → edit_of words ≡ Some e → stated library c e ≡ Ok d → after_words library n words c ≡ Ok d
+step_taken : (library : List Cell) (n : ℕ) (words : List (List ℕ)) (c d : Circuit) (e : Edit) → edit_of words ≡ Some e → is_in_file e ≡ true → stated library c e ≡ Ok d → after_words library n words c ≡ Ok d
 unfolding after_words
-step_taken library n [] c d e says does = absurd (no_edit e says)
-step_taken library n (w ∷ ws) c d e says does =
+step_taken library n [] c d e says allowed does = absurd (no_edit e says)
+step_taken library n (w ∷ ws) c d e says allowed does =
     let some : (length (w ∷ ws) == 0) ≡ false = grind (arith, nat_tests) in
-    rw (some, says, does) refl
+    rw (some, says, allowed, does) refl
 
 all_words : (words : List (List ℕ)) → EachSolid words → All IsWord words
 all_words [] h = All-nil IsWord
@@ -48,7 +49,7 @@ read_on : (back : WordsReadBack) (library : List Cell) (written : List (List (Li
 unfolding after_lines
 read_on back library [] n c d h = ap Ok h
 read_on back library (w ∷ ws) n c d h =
-    rw (back w (all_words w h.1.solid), step_taken library n w c h.0 h.1.edit h.1.says h.1.does) (read_on back library ws (n + 1) h.0 d h.2)
+    rw (back w (all_words w h.1.solid), step_taken library n w c h.0 h.1.edit h.1.says h.1.allowed h.1.does) (read_on back library ws (n + 1) h.0 d h.2)
 
 all_lines : (library : List Cell) (written : List (List (List ℕ))) (c d : Circuit) → Leads library written c d → All IsLine (map (join_with_byte 32) written)
 all_lines library [] c d h = All-nil IsLine

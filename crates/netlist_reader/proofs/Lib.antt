@@ -1,5 +1,7 @@
 pub mod Bytes
+pub mod DeletedNets
 pub mod EdgeLemmas
+pub mod EditFiles
 pub mod FirstRefusal
 pub mod Instances
 pub mod Leads

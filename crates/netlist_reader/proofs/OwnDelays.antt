@@ -102,6 +102,7 @@ arcs_lead library nets consts front i back k past (a ∷ more) done (Some d ∷ 
       record {
         edit = Delay (record { inst = i.name; pin = name_at k.inputs a.from; rise = d.rise; fall = d.fall });
         says = delay_said i.name (name_at k.inputs a.from) d own.0 own.1;
+        allowed = refl;
         does = delay_added library nets consts front i back k past a more done d (map (λ _. None) rest) at cell fresh e same own.0 own.1;
         solid = delay_solid i k a d named cell arc own.0 own.1;
       },

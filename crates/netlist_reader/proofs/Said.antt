@@ -10,7 +10,7 @@ use Rattle.netlist_model.specs.declared.parts.Fork.{Fork as ForkPart}
 use Rattle.netlist_model.specs.declared.parts.Tick.{Tick as TickPart}
 use Rattle.netlist_reader.specs.Canonical.{net_line, const_line, delay_line, tick_line, fork_line}
 use Rattle.netlist_reader.specs.EditLines.{edge_of, event_word, edit_of}
-use Rattle.netlist_reader.proofs.Bytes.{number_read}
+use Rattle.cyc_text.proofs.DecimalLemmas.{number_read}
 use Rattle.netlist_reader.proofs.Lists.{get_middle}
 
 pub net_said : (name : List ℕ) → edit_of (net_line name) ≡ Some (Net name)
@@ -59,9 +59,9 @@ pub fork_said : (nets : List (List ℕ)) (f : ForkPart) → f.margin ≤ 1000000
     → edit_of (fork_line nets f) ≡ Some (Fork (record { name = f.name; root = named_event nets f.root; fast = named_event nets f.fast; slow = named_event nets f.slow; margin = f.margin; offset = f.offset }))
 unfolding edit_of fork_line
 fork_said nets f low few =
-    rw (event_read nets f.root, event_read nets f.fast, event_read nets f.slow, number_read f.margin low, number_read f.offset (omega arith)) refl
+    rw (event_read nets f.root, event_read nets f.fast, event_read nets f.slow, number_read f.margin (omega arith), number_read f.offset (omega arith)) refl
 
 pub delay_said : (inst pin : List ℕ) (d : OwnDelay) → d.rise ≤ 1000000 → d.fall ≤ 1000000
     → edit_of (delay_line inst pin d) ≡ Some (Delay (record { inst = inst; pin = pin; rise = d.rise; fall = d.fall }))
 unfolding edit_of delay_line
-delay_said inst pin d low high = rw (number_read d.rise low, number_read d.fall high) refl
+delay_said inst pin d low high = rw (number_read d.rise (omega arith), number_read d.fall (omega arith)) refl

@@ -62,6 +62,7 @@ nets_lead library whole done (x ∷ more) e named differ few =
       record {
         edit = Net x;
         says = net_said x;
+        allowed = refl;
         does = net_added library done x name (new_name done x more whole e differ) (omega (arith, fewer done x more whole e));
         solid = net_solid x name;
       },
@@ -100,6 +101,7 @@ consts_lead library nets whole done (x ∷ more) e named differ few apart =
       record {
         edit = Const x;
         says = const_said x;
+        allowed = refl;
         does = const_added library nets done x name other (new_name done x more whole e differ) (omega (arith, fewer done x more whole e));
         solid = const_solid x name;
       },
@@ -165,6 +167,7 @@ ticks_lead library nets consts insts whole done (t ∷ more) e named differ each
       record {
         edit = Tick (record { source = named_event nets t.source; target = named_event nets t.target; count = t.count });
         says = tick_said nets t is.few;
+        allowed = refl;
         does = tick_added library nets consts insts done t differ is (find_none (is_between t.source t.target) done apart);
         solid = tick_solid nets t named is;
       },
@@ -186,6 +189,7 @@ root_leads library nets consts insts ticks (Some r) named differ low = (
   record {
     edit = Root (named_event nets r);
     says = root_said nets r;
+    allowed = refl;
     does = root_set library nets consts insts ticks r differ low;
     solid = (record { some = omega arith; high = (omega arith, (omega arith, (omega arith, (omega arith, tt)))) }, (event_solid nets r named low, tt));
   },
@@ -276,6 +280,7 @@ forks_lead library nets consts insts ticks root whole done (f ∷ more) e named 
       record {
         edit = Fork (record { name = f.name; root = named_event nets f.root; fast = named_event nets f.fast; slow = named_event nets f.slow; margin = f.margin; offset = f.offset });
         says = fork_said nets f is.margin is.offset;
+        allowed = refl;
         does = fork_added library nets consts insts ticks done root f differ is fresh (omega (arith, fewer done f more whole e)) (room_for_root done f more whole e roots);
         solid = fork_solid nets f named is;
       },

@@ -15,16 +15,16 @@ use Rattle.netlist_model.specs.declared.faults.StatementFault.TheVariants as sta
 use Rattle.netlist_model.specs.declared.parts.EventName.{EventName}
 use Rattle.netlist_reader.specs.EditLines.{edit_of}
 use Rattle.cell_arcs.specs.Steps.{◌>>=◌}
-use Rattle.netlist_reader.specs.NetlistFiles.{stated, at_line, after_edit, after_words, after_lines, netlist_of}
+use Rattle.netlist_reader.specs.NetlistFiles.{is_in_file, stated, at_line, after_edit, after_words, after_lines, netlist_of}
 use Rattle.netlist_reader.specs.declared.faults.NetFault.{NetFault}
 use Rattle.netlist_reader.specs.declared.faults.NetFault.TheVariants.{Syntax, Statement, Memory}
 
-bind_ok : (r : Result Circuit NetFault) (f : Circuit → Result Circuit NetFault) (d : Circuit) → r >>= f ≡ Ok d → (c : Circuit) × (r ≡ Ok c) × (f c ≡ Ok d)
+pub bind_ok : (r : Result Circuit NetFault) (f : Circuit → Result Circuit NetFault) (d : Circuit) → r >>= f ≡ Ok d → (c : Circuit) × (r ≡ Ok c) × (f c ≡ Ok d)
 bind_ok (Ok c) f d h = (c, refl, h)
 bind_ok (Err e) f d h = cc
 
 -- a root that is set where none stands is set where one may stand
-root_again : (c d : Circuit) (event : EventName) → set_root c event false ≡ Ok d → set_root c event true ≡ Ok d
+pub root_again : (c d : Circuit) (event : EventName) → set_root c event false ≡ Ok d → set_root c event true ≡ Ok d
 unfolding set_root
 root_again c d event h = by (event_of c.nets event) refl (is_some c.root) refl h
   where
@@ -36,13 +36,8 @@ root_again c d event h = by (event_of c.nets event) refl (is_some c.root) refl h
 -- what each edit keeps, each file keeps
 module _ (P : Circuit → Type 0) (library : List Cell) (kept : (c d : Circuit) (e : Edit) → P c → made library c e ≡ Ok d → P d) where
   stated_keeps : (c d : Circuit) (e : Edit) → P c → stated library c e ≡ Ok d → P d
-  stated_keeps c d (edit.Net name) p h = kept c d (edit.Net name) p h
-  stated_keeps c d (edit.Const name) p h = kept c d (edit.Const name) p h
-  stated_keeps c d (edit.Inst i) p h = kept c d (edit.Inst i) p h
-  stated_keeps c d (edit.Delay x) p h = kept c d (edit.Delay x) p h
-  stated_keeps c d (edit.Tick t) p h = kept c d (edit.Tick t) p h
   stated_keeps c d (edit.Root event) p h = kept c d (edit.Root event) p (root_again c d event h)
-  stated_keeps c d (edit.Fork f) p h = kept c d (edit.Fork f) p h
+  stated_keeps c d e p h = kept c d e p h
 
   at_line_keeps : (n : ℕ) (r : Result Circuit StatementFault) (d : Circuit) → ((x : Circuit) → r ≡ Ok x → P x) → at_line n r ≡ Ok d → P d
   at_line_keeps n (Ok c) d p h = let same : c ≡ d = cc in subst P same (p c refl)
@@ -50,7 +45,11 @@ module _ (P : Circuit → Type 0) (library : List Cell) (kept : (c d : Circuit) 
 
   after_edit_keeps : (n : ℕ) (o : Option Edit) (c d : Circuit) → P c → after_edit library n o c ≡ Ok d → P d
   after_edit_keeps n None c d p h = cc
-  after_edit_keeps n (Some e) c d p h = at_line_keeps n (stated library c e) d (λ x is. stated_keeps c x e p is) h
+  after_edit_keeps n (Some e) c d p h = by (is_in_file e) h
+    where
+      by : (b : Bool) → (if b then at_line n (stated library c e) else Err (Syntax n)) ≡ Ok d → P d
+      by true f = at_line_keeps n (stated library c e) d (λ x is. stated_keeps c x e p is) f
+      by false f = cc
 
   after_words_keeps : (n : ℕ) (words : List (List ℕ)) (c d : Circuit) → P c → after_words library n words c ≡ Ok d → P d
   unfolding after_words
@@ -98,17 +97,16 @@ at_line_no_want n (Err e) h = λ same. h (ap (λ (f : StatementFault). Err f) sa
 
 module _ (library : List Cell) (no_want : (c : Circuit) (e : Edit) → made library c e ≢ Err statement.Memory) where
   stated_no_want : (c : Circuit) (e : Edit) → stated library c e ≢ Err statement.Memory
-  stated_no_want c (edit.Net name) = no_want c (edit.Net name)
-  stated_no_want c (edit.Const name) = no_want c (edit.Const name)
-  stated_no_want c (edit.Inst i) = no_want c (edit.Inst i)
-  stated_no_want c (edit.Delay x) = no_want c (edit.Delay x)
-  stated_no_want c (edit.Tick t) = no_want c (edit.Tick t)
   stated_no_want c (edit.Root event) = root_no_want c event
-  stated_no_want c (edit.Fork f) = no_want c (edit.Fork f)
+  stated_no_want c e = no_want c e
 
   after_edit_no_want : (n : ℕ) (o : Option Edit) (c : Circuit) → NoWant (after_edit library n o c)
   after_edit_no_want n None c = tt
-  after_edit_no_want n (Some e) c = at_line_no_want n (stated library c e) (stated_no_want c e)
+  after_edit_no_want n (Some e) c = by (is_in_file e)
+    where
+      by : (b : Bool) → NoWant (if b then at_line n (stated library c e) else Err (Syntax n))
+      by true = at_line_no_want n (stated library c e) (stated_no_want c e)
+      by false = tt
 
   after_words_no_want : (n : ℕ) (words : List (List ℕ)) (c : Circuit) → NoWant (after_words library n words c)
   unfolding after_words

@@ -1,8 +1,8 @@
 -- The canonical text of a netlist: a line for each part, each line its words with one space between each two.
 use Rattle.std.specs.Prelude.{ℕ, List, [], ◌∷◌, ◌++◌, map, slice_get, Option, Some, None, codes, decimal}
-use Rattle.std.specs.List.{flat_map, join_with_byte}
+use Rattle.std.specs.List.{flat_map}
 use Rattle.std.specs.Option.{option_map_or}
-use Rattle.cyc_text.specs.ReadBack.{written_lines}
+use Rattle.cyc_text.specs.Written.{lines_text}
 use Rattle.cell_arcs.specs.declared.cells.Cell.{Cell}
 use Rattle.cell_arcs.specs.declared.cells.CellArc.{CellArc}
 use Rattle.netlist_model.specs.Circuit.{Circuit}
@@ -78,10 +78,6 @@ unfoldable pub fork_line : List (List ℕ) → Fork → List (List ℕ)
 fork_line nets f =
     codes "fork" ∷ f.name ∷ event_name nets f.root ∷ event_name nets f.fast ∷ event_name nets f.slow
     ∷ decimal f.margin ∷ decimal f.offset ∷ []
-
--- lines of words as a text
-unfoldable pub lines_text : List (List (List ℕ)) → List ℕ
-lines_text lines = written_lines (map (join_with_byte 32) lines)
 
 -- the lines of a netlist: nets, constants, instances, own delays, ticks, root, forks
 unfoldable pub canonical_lines : List Cell → Circuit → List (List (List ℕ))

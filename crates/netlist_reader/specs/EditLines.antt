@@ -3,7 +3,7 @@ use Rattle.std.specs.Prelude.{◌+◌, ◌-◌, ◌==◌, ℕ, Bool, true, false
 use Rattle.std.specs.Str.{bytes_eq}
 use Rattle.cyc_text.specs.Number.{number_of}
 use Rattle.netlist_model.specs.declared.edits.Edit.{Edit}
-use Rattle.netlist_model.specs.declared.edits.Edit.TheVariants.{Net, Const, Inst, Delay, Tick, Root, Fork}
+use Rattle.netlist_model.specs.declared.edits.Edit.TheVariants.{Net, Const, Inst, DelInst, DelNet, Move, Swap, Delay, Tick, Root, Fork, DelFork}
 use Rattle.netlist_model.specs.declared.parts.EventName.{EventName}
 use Rattle.netlist_model.specs.declared.parts.PinNet.{PinNet}
 
@@ -45,6 +45,26 @@ inst_words (name ∷ cell ∷ words) =
     option_and_then (λ pins. Some (Inst (record { name = name; cell = cell; pins = pins }))) (pin_words [] words)
 inst_words words = None
 
+-- the words after `delinst`: NAME
+abbrev pub del_inst_words : List (List ℕ) → Option Edit
+del_inst_words (name ∷ []) = Some (DelInst name)
+del_inst_words words = None
+
+-- the words after `delnet`: NAME
+abbrev pub del_net_words : List (List ℕ) → Option Edit
+del_net_words (name ∷ []) = Some (DelNet name)
+del_net_words words = None
+
+-- the words after `move`: INST PIN NET
+abbrev pub move_words : List (List ℕ) → Option Edit
+move_words (inst ∷ pin ∷ net ∷ []) = Some (Move (record { inst = inst; pin = pin; net = net }))
+move_words words = None
+
+-- the words after `swap`: INST CELL
+abbrev pub swap_words : List (List ℕ) → Option Edit
+swap_words (inst ∷ cell ∷ []) = Some (Swap (record { inst = inst; cell = cell }))
+swap_words words = None
+
 -- the words after `delay`: INST PIN RISE FALL
 abbrev pub delay_words : List (List ℕ) → Option Edit
 delay_words (inst ∷ pin ∷ rise ∷ fall ∷ []) =
@@ -75,6 +95,11 @@ fork_words (name ∷ root ∷ fast ∷ slow ∷ margin ∷ offset ∷ []) =
     fork_parts name (event_word root) (event_word fast) (event_word slow) (number_of margin) (number_of offset)
 fork_words words = None
 
+-- the words after `delfork`: NAME
+abbrev pub del_fork_words : List (List ℕ) → Option Edit
+del_fork_words (name ∷ []) = Some (DelFork name)
+del_fork_words words = None
+
 -- the edit that a line's words say, if they say one
 unfoldable pub edit_of : List (List ℕ) → Option Edit
 edit_of [] = None
@@ -82,8 +107,13 @@ edit_of (first ∷ words) =
     if bytes_eq first (codes "net") then net_words words
     else if bytes_eq first (codes "const") then const_words words
     else if bytes_eq first (codes "inst") then inst_words words
+    else if bytes_eq first (codes "delinst") then del_inst_words words
+    else if bytes_eq first (codes "delnet") then del_net_words words
+    else if bytes_eq first (codes "move") then move_words words
+    else if bytes_eq first (codes "swap") then swap_words words
     else if bytes_eq first (codes "delay") then delay_words words
     else if bytes_eq first (codes "tick") then tick_words words
     else if bytes_eq first (codes "root") then root_words words
     else if bytes_eq first (codes "fork") then fork_words words
+    else if bytes_eq first (codes "delfork") then del_fork_words words
     else None

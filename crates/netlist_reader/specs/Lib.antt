@@ -1,7 +1,8 @@
 pub mod Canonical
+pub mod DeletedLines
+pub mod EditFiles
 pub mod EditLines
 pub mod NetlistFiles
-pub mod Pieces
 pub mod ReadBack
 pub mod Readings
 pub mod RefusedLines

@@ -1,5 +1,5 @@
 -- A netlist file: its lines in turn, each a statement.
-use Rattle.std.specs.Prelude.{◌+◌, ◌==◌, ℕ, false, if◌then◌else◌, List, [], ◌∷◌, length, Option, Some, None, Result, Ok, Err}
+use Rattle.std.specs.Prelude.{◌+◌, ◌==◌, ℕ, Bool, true, false, if◌then◌else◌, List, [], ◌∷◌, length, Option, Some, None, Result, Ok, Err}
 use Rattle.std.specs.Str.Lines.{lines}
 use Rattle.cyc_text.specs.Words.{words_of}
 use Rattle.cell_arcs.specs.declared.cells.Cell.{Cell}
@@ -8,21 +8,25 @@ use Rattle.netlist_model.specs.Circuit.{Circuit, nothing}
 use Rattle.netlist_model.specs.Edits.{made}
 use Rattle.netlist_model.specs.Statements.{set_root}
 use Rattle.netlist_model.specs.declared.edits.Edit.{Edit}
-use Rattle.netlist_model.specs.declared.edits.Edit.TheVariants.{Net, Const, Inst, Delay, Tick, Root, Fork}
+use Rattle.netlist_model.specs.declared.edits.Edit.TheVariants.{DelInst, DelNet, Move, Swap, Root, DelFork}
 use Rattle.netlist_model.specs.declared.faults.StatementFault.{StatementFault}
 use Rattle.netlist_reader.specs.EditLines.{edit_of}
 use Rattle.netlist_reader.specs.declared.faults.NetFault.{NetFault}
 use Rattle.netlist_reader.specs.declared.faults.NetFault.TheVariants.{Syntax, Statement}
 
+-- whether a netlist file may say this: it adds, and takes nothing away
+abbrev pub is_in_file : Edit → Bool
+is_in_file (DelInst name) = false
+is_in_file (DelNet name) = false
+is_in_file (Move m) = false
+is_in_file (Swap s) = false
+is_in_file (DelFork name) = false
+is_in_file e = true
+
 -- the netlist after a file's statement, or why it is refused: as an edit, but a file has one root alone
 abbrev pub stated : List Cell → Circuit → Edit → Result Circuit StatementFault
-stated library c (Net name) = made library c (Net name)
-stated library c (Const name) = made library c (Const name)
-stated library c (Inst i) = made library c (Inst i)
-stated library c (Delay d) = made library c (Delay d)
-stated library c (Tick t) = made library c (Tick t)
 stated library c (Root event) = set_root c event false
-stated library c (Fork f) = made library c (Fork f)
+stated library c e = made library c e
 
 -- a statement's fault, with its line's number
 abbrev pub at_line : ℕ → Result Circuit StatementFault → Result Circuit NetFault
@@ -32,7 +36,7 @@ at_line n (Err e) = Err (Statement n e)
 -- the netlist after what line n says
 abbrev pub after_edit : List Cell → ℕ → Option Edit → Circuit → Result Circuit NetFault
 after_edit library n None c = Err (Syntax n)
-after_edit library n (Some e) c = at_line n (stated library c e)
+after_edit library n (Some e) c = if is_in_file e then at_line n (stated library c e) else Err (Syntax n)
 
 -- the netlist after line n of these words; a line without words is passed over
 unfoldable pub after_words : List Cell → ℕ → List (List ℕ) → Circuit → Result Circuit NetFault

@@ -21,6 +21,26 @@ pub enum NetFault {
     Memory,
 }
 
+/// Why a file of edits is refused: the number of its first line that is no edit line, from 1.
+#[derive(Clone, Copy, Debug, PartialEq, Eq, Drop)]
+pub enum EditsFault {
+    /// The line has no form of an edit line.
+    Syntax(u64),
+    /// Memory ran out.
+    Memory,
+}
+
+impl<T: Drop> From<AllocFailed<T>> for EditsFault {
+    ghost use Rattle.std.specs.Prelude.{◌≡◌};
+    ghost use Rattle.netlist_reader.specs.declared.faults.EditsFault.TheVariants.{Memory};
+
+    ghost from_gives = { λ _ e. e ≡ Memory };
+
+    fn from(_: AllocFailed<T>) -> Self {
+        EditsFault::Memory
+    }
+}
+
 impl From<AllocError> for LineFault {
     ghost use Rattle.std.specs.Prelude.{◌≡◌};
     ghost use Rattle.netlist_reader.specs.declared.faults.LineFault.TheVariants.{Memory};

@@ -68,9 +68,23 @@ fn read_line(
         return Ok(());
     };
     match edit_of(alloc, first, rest) {
-        Ok(edit) => make_at_line(library, number, &edit, net),
-        Err(LineFault::Syntax) => Err(NetFault::Syntax(number)),
+        Ok(edit) if is_in_file(&edit) => make_at_line(library, number, &edit, net),
+        Ok(_) | Err(LineFault::Syntax) => Err(NetFault::Syntax(number)),
         Err(LineFault::Memory) => Err(NetFault::Memory),
+    }
+}
+
+/// Whether a netlist file may say this: it adds, and takes nothing away.
+fn is_in_file(edit: &Edit) -> bool
+    ensures { result ≡ spec.is_in_file edit.now }
+{
+    match edit {
+        Edit::DelInst(_) => false,
+        Edit::DelNet(_) => false,
+        Edit::Move(_) => false,
+        Edit::Swap(_) => false,
+        Edit::DelFork(_) => false,
+        _ => true,
     }
 }
 

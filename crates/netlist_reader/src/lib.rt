@@ -1,6 +1,7 @@
-//! Netlist files are read, and written in one way.
+//! Netlist files and files of edits are read, and netlists written in one way.
 #![tactic(auto)]
 
+mod edit_files;
 mod faults;
 mod files;
 mod laws;
@@ -12,8 +13,13 @@ mod writing;
 #[cfg(test)]
 mod writing_tests;
 
-pub use faults::{LineFault, NetFault};
+pub use edit_files::read_edits;
+pub use faults::{EditsFault, LineFault, NetFault};
 pub use files::read;
-pub use laws::{first_line_refuses, netlists_are_sound, written_netlists_are_read_back};
+pub use laws::{
+    accepted_files_are_edits, deleted_nets_lose_their_line, edit_files_are_told,
+    first_line_refuses, netlists_are_sound, written_netlists_are_read_back,
+};
 pub use lines::read_edit;
+pub use words::{event_word, take_end, take_word};
 pub use writing::write;

@@ -7,7 +7,7 @@ ghost use Rattle.netlist_reader.specs.Readings.{Reads};
 use crate::faults::LineFault;
 use crate::words::{event_word, first_word, number, pin_words, take_end, take_word};
 use cyc_text::{LineSpan, Text};
-use netlist_model::{DelayOf, Edit, ForkText, InstOf, TickOf};
+use netlist_model::{DelayOf, Edit, ForkText, InstOf, MoveOf, SwapOf, TickOf};
 use std::alloc::Global;
 
 /// What a line of the bytes says.
@@ -36,6 +36,14 @@ pub(crate) fn edit_of(alloc: Global, first: &[u8], rest: &[u8]) -> Result<Edit, 
         const_words(alloc, rest)
     } else if first == b"inst".as_slice() {
         inst_words(alloc, rest)
+    } else if first == b"delinst".as_slice() {
+        del_inst_words(alloc, rest)
+    } else if first == b"delnet".as_slice() {
+        del_net_words(alloc, rest)
+    } else if first == b"move".as_slice() {
+        move_words(alloc, rest)
+    } else if first == b"swap".as_slice() {
+        swap_words(alloc, rest)
     } else if first == b"delay".as_slice() {
         delay_words(alloc, rest)
     } else if first == b"tick".as_slice() {
@@ -44,6 +52,8 @@ pub(crate) fn edit_of(alloc: Global, first: &[u8], rest: &[u8]) -> Result<Edit, 
         root_words(alloc, rest)
     } else if first == b"fork".as_slice() {
         fork_words(alloc, rest)
+    } else if first == b"delfork".as_slice() {
+        del_fork_words(alloc, rest)
     } else {
         Err(LineFault::Syntax)
     }
@@ -77,6 +87,50 @@ fn inst_words(alloc: Global, line: &[u8]) -> Result<Edit, LineFault>
     let name = Text::of(alloc, name)?;
     let cell = Text::of(alloc, cell)?;
     Ok(Edit::Inst(InstOf { name, cell, pins }))
+}
+
+/// The line behind `delinst`.
+fn del_inst_words(alloc: Global, line: &[u8]) -> Result<Edit, LineFault>
+    ensures { Reads result (spec.del_inst_words (text.words_of line.now)) }
+{
+    let (name, rest) = take_word(line)?;
+    take_end(rest)?;
+    Ok(Edit::DelInst(Text::of(alloc, name)?))
+}
+
+/// The line behind `delnet`.
+fn del_net_words(alloc: Global, line: &[u8]) -> Result<Edit, LineFault>
+    ensures { Reads result (spec.del_net_words (text.words_of line.now)) }
+{
+    let (name, rest) = take_word(line)?;
+    take_end(rest)?;
+    Ok(Edit::DelNet(Text::of(alloc, name)?))
+}
+
+/// The line behind `move`.
+fn move_words(alloc: Global, line: &[u8]) -> Result<Edit, LineFault>
+    ensures { Reads result (spec.move_words (text.words_of line.now)) }
+{
+    let (inst, rest) = take_word(line)?;
+    let (pin, rest) = take_word(rest)?;
+    let (net, rest) = take_word(rest)?;
+    take_end(rest)?;
+    let inst = Text::of(alloc, inst)?;
+    let pin = Text::of(alloc, pin)?;
+    let net = Text::of(alloc, net)?;
+    Ok(Edit::Move(MoveOf { inst, pin, net }))
+}
+
+/// The line behind `swap`.
+fn swap_words(alloc: Global, line: &[u8]) -> Result<Edit, LineFault>
+    ensures { Reads result (spec.swap_words (text.words_of line.now)) }
+{
+    let (inst, rest) = take_word(line)?;
+    let (cell, rest) = take_word(rest)?;
+    take_end(rest)?;
+    let inst = Text::of(alloc, inst)?;
+    let cell = Text::of(alloc, cell)?;
+    Ok(Edit::Swap(SwapOf { inst, cell }))
 }
 
 /// The line behind `delay`.
@@ -152,4 +206,13 @@ fn fork_words(alloc: Global, line: &[u8]) -> Result<Edit, LineFault>
         margin,
         offset,
     }))
+}
+
+/// The line behind `delfork`.
+fn del_fork_words(alloc: Global, line: &[u8]) -> Result<Edit, LineFault>
+    ensures { Reads result (spec.del_fork_words (text.words_of line.now)) }
+{
+    let (name, rest) = take_word(line)?;
+    take_end(rest)?;
+    Ok(Edit::DelFork(Text::of(alloc, name)?))
 }

@@ -1,4 +1,4 @@
-use crate::{LineFault, read, read_edit};
+use crate::{LineFault, read, read_edit, read_edits};
 use cell_arcs::Library;
 use cyc_text::LineSpan;
 use netlist_model::{Edit, Netlist};
@@ -33,7 +33,18 @@ root A+ B+ => syntax
 fork f A+ B+ A- 5 0 => edit
 fork f A+ B+ A- 5 => syntax
 fork f A+ B+ A- 5 0 0 => syntax
-delnet A => syntax
+delinst i1 => edit
+delinst => syntax
+delinst i1 i2 => syntax
+delnet A => edit
+delnet => syntax
+move i1 A B => edit
+move i1 A => syntax
+move i1 A=B => syntax
+swap i1 INV => edit
+swap i1 => syntax
+delfork f => edit
+delfork f g => syntax
 Net A => syntax
 nets A => syntax
 #net A => syntax
@@ -57,7 +68,42 @@ net A|inst i INV = => Err(Statement(2, UnknownPin))
 net A|inst i INV A= => Err(Statement(2, UnknownNet))
 net A|inst i INV Z=A A=A|inst j INV A=A Z=A => Err(Statement(3, DriverTaken(1)))
 net A|delnet A => Err(Syntax(2))
+net A|inst i INV A=A Z=A|delinst i => Err(Syntax(3))
+net A|inst i INV A=A Z=A|move i A A => Err(Syntax(3))
+net A|inst i INV A=A Z=A|swap i INV => Err(Syntax(3))
+net A|fork f A+ A+ A+ 0 0|delfork f => Err(Syntax(3))
 ";
+
+/// Files of edits, `|` for each line feed, and how many edits each says.
+const EDITS: &str = "\
+# none|| \t| => Ok(0)
+ => Ok(0)
+net A|delnet A\r||move i A B # on B|delfork f => Ok(4)
+delinst i||delinst => Err(Syntax(3))
+net|delinst => Err(Syntax(1))
+";
+
+/// How many edits a file says.
+fn edits(alloc: Global, file: &str) -> Result<String, Fail> {
+    let text = file.replace(alloc, '|', "\n")?;
+    let count = match read_edits(alloc, text.as_bytes()) {
+        Ok(edits) => Ok(edits.list().len()),
+        Err(fault) => Err(fault),
+    };
+    Ok(format!(in alloc; "{count:?}")?)
+}
+
+/// The first file of edits that does not say what its row says.
+fn first_edits_amiss(alloc: Global) -> Result<Option<&'static str>, Fail> {
+    'rows: for row in EDITS.lines() {
+        let (file, wanted) = row.split_once(" => ").ok_or("no arrow")?;
+        let told = edits(alloc, file)?;
+        if told.as_str() != wanted {
+            return Ok(Some(row));
+        }
+    }
+    Ok(None)
+}
 
 /// The edit of a line.
 fn edit(alloc: Global, line: &str) -> Result<Edit, LineFault> {
@@ -159,5 +205,11 @@ fn parts_an_event_word_at_its_last_byte(rt: HostRuntime) -> Result<(), Fail> {
 fn reads_files(rt: HostRuntime) -> Result<(), Fail> {
     let library = Library::read(rt.alloc(), CELLS.as_bytes())?;
     assert_eq!(rt; first_file_amiss(rt.alloc(), &library)?, None);
+    Ok(())
+}
+
+#[test]
+fn reads_files_of_edits(rt: HostRuntime) -> Result<(), Fail> {
+    assert_eq!(rt; first_edits_amiss(rt.alloc())?, None);
     Ok(())
 }

@@ -1,39 +1,25 @@
 // The words of a line, lent one by one, and what a word says.
-ghost use Rattle.std.specs.Prelude.{◌≡◌, ◌<◌, [], ◌∷◌, length, position, IfSome, MatchOption, MatchResult};
+ghost use Rattle.std.specs.Prelude.{◌≡◌, ◌<◌, [], ◌∷◌, length, position, IfSome, MatchResult};
 ghost use Rattle.cyc_text.specs.Number.{number_of};
 ghost use Rattle.cyc_text.specs.Words.{words_of};
 ghost use Rattle.netlist_reader.specs.EditLines as spec;
 ghost use Rattle.netlist_reader.specs.Readings.{HasWord, Reads};
 
 use crate::faults::LineFault;
-use cyc_text::{LineSpan, Text, next_word, read_number};
+pub(crate) use cyc_text::first_word;
+use cyc_text::{Text, read_number};
 use netlist_model::{EventName, PinNet, PinNets};
 use std::alloc::Global;
 
-/// The first word of a line, and the line behind it. `None` exactly where the line has no word.
-pub(crate) fn first_word(line: &[u8]) -> Option<(&[u8], &[u8])>
-    ensures words { MatchOption result (words_of line.now ≡ []) (λ p. words_of line.now ≡ p.0.now ∷ words_of p.1.now) }
-    ensures shorter { IfSome result (λ p. length p.1.now < length line.now) }
-{
-    let end = line.len();
-    let whole = LineSpan {
-        from: 0,
-        to: end,
-        next: end,
-    };
-    let word = next_word(line, whole, 0)?;
-    Some((&line[word.from..word.to], &line[word.to..]))
-}
-
 /// The first word of a line that must have one, and the line behind it.
-pub(crate) fn take_word(line: &[u8]) -> Result<(&[u8], &[u8]), LineFault>
+pub fn take_word(line: &[u8]) -> Result<(&[u8], &[u8]), LineFault>
     ensures { MatchResult result (λ p. words_of line.now ≡ p.0.now ∷ words_of p.1.now) (λ _. words_of line.now ≡ []) }
 {
     first_word(line).ok_or(LineFault::Syntax)
 }
 
 /// Refuses a line that has a word.
-pub(crate) fn take_end(line: &[u8]) -> Result<(), LineFault>
+pub fn take_end(line: &[u8]) -> Result<(), LineFault>
     ensures { MatchResult result (λ _. words_of line.now ≡ []) (λ _. HasWord (words_of line.now)) }
 {
     match first_word(line) {
@@ -62,7 +48,7 @@ fn rises(edge: u8) -> Result<bool, LineFault>
 
 /// An event word.
 #[tactic(auto, unfolding(crate::specs::EditLines::event_word))]
-pub(crate) fn event_word(alloc: Global, word: &[u8]) -> Result<EventName, LineFault>
+pub fn event_word(alloc: Global, word: &[u8]) -> Result<EventName, LineFault>
     ensures { Reads result (spec.event_word word.now) }
 {
     let Some((edge, net)) = word.split_last() else {

@@ -1,17 +1,16 @@
 //! The canonical text of a netlist.
-ghost use Rattle.std.specs.Prelude.{◌≡◌, ◌+◌, ◌++◌, ◌∷◌, ◌<◌, ◌*◌, [], All, IfOk, OnOk, Ok, Some, decimal, length, map, slice_get};
+ghost use Rattle.std.specs.Prelude.{◌≡◌, ◌+◌, ◌++◌, ◌∷◌, ◌<◌, ◌*◌, [], All, IfOk, OnOk, Ok, Some, length, map, slice_get};
 ghost use Rattle.std.specs.List.{flat_map};
+ghost use Rattle.cyc_text.specs.Written.{ended, line_text, lines_text};
 ghost use Rattle.cell_arcs.specs.IsLibrary.{IsCell};
 ghost use Rattle.netlist_model.specs.EventNames.{event_name};
 ghost use Rattle.netlist_model.specs.Sound.{Fits, FitsCell, IsFork, IsInstance, IsOfLibrary, IsPin, IsTick};
 ghost use Rattle.netlist_reader.specs.Canonical as spec;
 ghost use Rattle.netlist_reader.specs.NetlistFiles.{netlist_of};
-ghost use Rattle.netlist_reader.specs.Pieces as pieces;
 
 use crate::laws::written_netlists_are_read_back;
 use cell_arcs::{Cell, CellArc, Library};
-use cyc_text::Text;
-use itoa::Buffer;
+use cyc_text::{Text, push_number, push_word};
 use netlist_model::{Delay, Fork, Instance, NetRef, Netlist, Tick};
 use std::alloc::{AllocError, Global};
 
@@ -48,30 +47,6 @@ fn text_of(alloc: Global, library: &Library, net: &Netlist) -> Result<Vec<u8>, A
     Ok(text)
 }
 
-/// Adds a number in decimal.
-fn push_decimal(text: &mut Vec<u8>, number: u32) -> Result<(), AllocError>
-    ensures { OnOk result (text.new.items ≡ text.old.items ++ decimal number) }
-{
-    let mut buffer = Buffer::new();
-    text.extend_from_slice(buffer.format(number).as_bytes())
-}
-
-/// Adds a space and a word.
-fn push_word(text: &mut Vec<u8>, word: &[u8]) -> Result<(), AllocError>
-    ensures { OnOk result (text.new.items ≡ text.old.items ++ 32 ∷ word.now) }
-{
-    text.push(b' ')?;
-    text.extend_from_slice(word)
-}
-
-/// Adds a space and a number.
-fn push_number(text: &mut Vec<u8>, number: u32) -> Result<(), AllocError>
-    ensures { OnOk result (text.new.items ≡ text.old.items ++ 32 ∷ decimal number) }
-{
-    text.push(b' ')?;
-    push_decimal(text, number)
-}
-
 /// Adds a space and an event's name.
 #[tactic(auto, unfolding(netlist_model::specs::EventNames::event_name), using(crate::proofs::Texts::name_is))]
 fn push_event(text: &mut Vec<u8>, net: &Netlist, event: u32) -> Result<(), AllocError>
@@ -98,7 +73,7 @@ fn ref_name(net: &Netlist, pin: NetRef) -> &[u8]
 /// Adds the line of a net.
 #[tactic(auto, unfolding(crate::specs::Canonical::net_line))]
 fn push_net(text: &mut Vec<u8>, name: &[u8]) -> Result<(), AllocError>
-    ensures { OnOk result (text.new.items ≡ text.old.items ++ pieces.line_text (spec.net_line name.now)) }
+    ensures { OnOk result (text.new.items ≡ text.old.items ++ line_text (spec.net_line name.now)) }
 {
     text.extend_from_slice(b"net")?;
     push_word(text, name)?;
@@ -108,7 +83,7 @@ fn push_net(text: &mut Vec<u8>, name: &[u8]) -> Result<(), AllocError>
 /// Adds the line of a constant.
 #[tactic(auto, unfolding(crate::specs::Canonical::const_line))]
 fn push_const(text: &mut Vec<u8>, name: &[u8]) -> Result<(), AllocError>
-    ensures { OnOk result (text.new.items ≡ text.old.items ++ pieces.line_text (spec.const_line name.now)) }
+    ensures { OnOk result (text.new.items ≡ text.old.items ++ line_text (spec.const_line name.now)) }
 {
     text.extend_from_slice(b"const")?;
     push_word(text, name)?;
@@ -148,7 +123,7 @@ fn push_pins(
 ) -> Result<(), AllocError>
     requires each { All (IsPin (length net.now.nets) (length net.now.consts)) pins.now }
     requires fits { length pins.now ≡ length cell.now.inputs + 1 }
-    ensures { OnOk result (text.new.items ≡ text.old.items ++ pieces.ended (spec.pin_names net.now.nets net.now.consts (cell.now.inputs ++ cell.now.output ∷ []) pins.now)) }
+    ensures { OnOk result (text.new.items ≡ text.old.items ++ ended (spec.pin_names net.now.nets net.now.consts (cell.now.inputs ++ cell.now.output ∷ []) pins.now)) }
 {
     for at in 0..pins.len() {
         let pin = pin_at(cell, at);
@@ -168,7 +143,7 @@ fn push_inst(
 ) -> Result<(), AllocError>
     requires each { All (IsPin (length net.now.nets) (length net.now.consts)) inst.now.pins }
     requires fits { FitsCell cell.now inst.now }
-    ensures { OnOk result (text.new.items ≡ text.old.items ++ pieces.line_text (spec.inst_line_of net.now inst.now cell.now)) }
+    ensures { OnOk result (text.new.items ≡ text.old.items ++ line_text (spec.inst_line_of net.now inst.now cell.now)) }
 {
     text.extend_from_slice(b"inst")?;
     push_word(text, inst.name.bytes())?;
@@ -179,13 +154,13 @@ fn push_inst(
 /// Adds the line of an arc's own delays.
 #[tactic(auto, unfolding(crate::specs::Canonical::delay_line))]
 fn push_delay(text: &mut Vec<u8>, inst: &[u8], pin: &[u8], own: Delay) -> Result<(), AllocError>
-    ensures { OnOk result (text.new.items ≡ text.old.items ++ pieces.line_text (spec.delay_line inst.now pin.now own)) }
+    ensures { OnOk result (text.new.items ≡ text.old.items ++ line_text (spec.delay_line inst.now pin.now own)) }
 {
     text.extend_from_slice(b"delay")?;
     push_word(text, inst)?;
     push_word(text, pin)?;
-    push_number(text, own.rise)?;
-    push_number(text, own.fall)?;
+    push_number(text, u64::from(own.rise))?;
+    push_number(text, u64::from(own.fall))?;
     text.extend_from_slice(b"\n")
 }
 
@@ -193,12 +168,12 @@ fn push_delay(text: &mut Vec<u8>, inst: &[u8], pin: &[u8], own: Delay) -> Result
 #[tactic(auto, unfolding(crate::specs::Canonical::tick_line))]
 fn push_tick(text: &mut Vec<u8>, net: &Netlist, tick: Tick) -> Result<(), AllocError>
     requires { IsTick (length net.now.nets) tick }
-    ensures { OnOk result (text.new.items ≡ text.old.items ++ pieces.line_text (spec.tick_line net.now.nets tick)) }
+    ensures { OnOk result (text.new.items ≡ text.old.items ++ line_text (spec.tick_line net.now.nets tick)) }
 {
     text.extend_from_slice(b"tick")?;
     push_event(text, net, tick.source)?;
     push_event(text, net, tick.target)?;
-    push_number(text, tick.count)?;
+    push_number(text, u64::from(tick.count))?;
     text.extend_from_slice(b"\n")
 }
 
@@ -216,19 +191,19 @@ fn push_events(text: &mut Vec<u8>, net: &Netlist, fork: &Fork) -> Result<(), All
 #[tactic(auto, unfolding(crate::specs::Canonical::fork_line))]
 fn push_fork(text: &mut Vec<u8>, net: &Netlist, fork: &Fork) -> Result<(), AllocError>
     requires { IsFork (length net.now.nets) fork.now }
-    ensures { OnOk result (text.new.items ≡ text.old.items ++ pieces.line_text (spec.fork_line net.now.nets fork.now)) }
+    ensures { OnOk result (text.new.items ≡ text.old.items ++ line_text (spec.fork_line net.now.nets fork.now)) }
 {
     text.extend_from_slice(b"fork")?;
     push_word(text, fork.name.bytes())?;
     push_events(text, net, fork)?;
-    push_number(text, fork.margin)?;
-    push_number(text, fork.offset)?;
+    push_number(text, u64::from(fork.margin))?;
+    push_number(text, u64::from(fork.offset))?;
     text.extend_from_slice(b"\n")
 }
 
 /// Adds the lines of the nets.
 fn push_nets(text: &mut Vec<u8>, net: &Netlist) -> Result<(), AllocError>
-    ensures { OnOk result (text.new.items ≡ text.old.items ++ spec.lines_text (map spec.net_line net.now.nets)) }
+    ensures { OnOk result (text.new.items ≡ text.old.items ++ lines_text (map spec.net_line net.now.nets)) }
 {
     for at in 0..net.net_count() {
         let name = net.net_name(at);
@@ -239,7 +214,7 @@ fn push_nets(text: &mut Vec<u8>, net: &Netlist) -> Result<(), AllocError>
 
 /// Adds the lines of the constants.
 fn push_consts(text: &mut Vec<u8>, net: &Netlist) -> Result<(), AllocError>
-    ensures { OnOk result (text.new.items ≡ text.old.items ++ spec.lines_text (map spec.const_line net.now.consts)) }
+    ensures { OnOk result (text.new.items ≡ text.old.items ++ lines_text (map spec.const_line net.now.consts)) }
 {
     for at in 0..net.const_count() {
         let name = net.const_name(at);
@@ -261,7 +236,7 @@ fn cell_of<'a>(library: &'a Library, inst: &Instance) -> &'a Cell
 /// Adds the lines of the instances.
 fn push_insts(text: &mut Vec<u8>, library: &Library, net: &Netlist) -> Result<(), AllocError>
     requires { Fits library.now net.now.insts }
-    ensures { OnOk result (text.new.items ≡ text.old.items ++ spec.lines_text (map (spec.inst_line library.now net.now) net.now.insts)) }
+    ensures { OnOk result (text.new.items ≡ text.old.items ++ lines_text (map (spec.inst_line library.now net.now) net.now.insts)) }
 {
     let _ = net.net_count();
     for at in 0..net.inst_count() {
@@ -273,7 +248,7 @@ fn push_insts(text: &mut Vec<u8>, library: &Library, net: &Netlist) -> Result<()
 }
 
 /// Adds the line of an arc where the instance has delays of its own for it.
-#[tactic(auto, using(crate::proofs::Texts::nothing_written))]
+#[tactic(auto, using(cyc_text::proofs::WrittenLemmas::nothing_written))]
 fn push_own(
     text: &mut Vec<u8>,
     inst: &[u8],
@@ -282,7 +257,7 @@ fn push_own(
     own: Option<Delay>,
 ) -> Result<(), AllocError>
     requires { arc.from < length cell.now.inputs }
-    ensures { OnOk result (text.new.items ≡ text.old.items ++ spec.lines_text (spec.arc_lines inst.now cell.now.inputs arc own)) }
+    ensures { OnOk result (text.new.items ≡ text.old.items ++ lines_text (spec.arc_lines inst.now cell.now.inputs arc own)) }
 {
     let Some(delay) = own else {
         return Ok(());
@@ -296,7 +271,7 @@ fn push_own(
 fn push_owns(text: &mut Vec<u8>, cell: &Cell, inst: &Instance) -> Result<(), AllocError>
     requires sound { IsCell cell.now }
     requires fits { FitsCell cell.now inst.now }
-    ensures { OnOk result (text.new.items ≡ text.old.items ++ spec.lines_text (spec.delay_lines_of inst.now.name cell.now.inputs cell.now.arcs inst.now.delays)) }
+    ensures { OnOk result (text.new.items ≡ text.old.items ++ lines_text (spec.delay_lines_of inst.now.name cell.now.inputs cell.now.arcs inst.now.delays)) }
 {
     let arcs = cell.arcs.list();
     let delays = inst.delays.list();
@@ -311,7 +286,7 @@ fn push_owns(text: &mut Vec<u8>, cell: &Cell, inst: &Instance) -> Result<(), All
 /// Adds the lines of all own delays.
 fn push_delays(text: &mut Vec<u8>, library: &Library, net: &Netlist) -> Result<(), AllocError>
     requires { Fits library.now net.now.insts }
-    ensures { OnOk result (text.new.items ≡ text.old.items ++ spec.lines_text (flat_map (spec.delay_lines library.now) net.now.insts)) }
+    ensures { OnOk result (text.new.items ≡ text.old.items ++ lines_text (flat_map (spec.delay_lines library.now) net.now.insts)) }
 {
     for at in 0..net.inst_count() {
         let inst = net.inst(at);
@@ -324,7 +299,7 @@ fn push_delays(text: &mut Vec<u8>, library: &Library, net: &Netlist) -> Result<(
 /// Adds the lines of ticks.
 fn push_block(text: &mut Vec<u8>, net: &Netlist, ticks: &[Tick]) -> Result<(), AllocError>
     requires { All (IsTick (length net.now.nets)) ticks.now }
-    ensures { OnOk result (text.new.items ≡ text.old.items ++ spec.lines_text (map (spec.tick_line net.now.nets) ticks.now)) }
+    ensures { OnOk result (text.new.items ≡ text.old.items ++ lines_text (map (spec.tick_line net.now.nets) ticks.now)) }
 {
     for tick in ticks {
         push_tick(text, net, *tick)?;
@@ -334,7 +309,7 @@ fn push_block(text: &mut Vec<u8>, net: &Netlist, ticks: &[Tick]) -> Result<(), A
 
 /// Adds the lines of the ticks of a netlist.
 fn push_ticks(text: &mut Vec<u8>, net: &Netlist) -> Result<(), AllocError>
-    ensures { OnOk result (text.new.items ≡ text.old.items ++ spec.lines_text (map (spec.tick_line net.now.nets) net.now.ticks)) }
+    ensures { OnOk result (text.new.items ≡ text.old.items ++ lines_text (map (spec.tick_line net.now.nets) net.now.ticks)) }
 {
     let _ = net.net_count();
     let blocks = net.tick_blocks();
@@ -345,9 +320,9 @@ fn push_ticks(text: &mut Vec<u8>, net: &Netlist) -> Result<(), AllocError>
 }
 
 /// Adds the line of the root.
-#[tactic(auto, unfolding(crate::specs::Canonical::root_lines, crate::specs::Canonical::lines_text))]
+#[tactic(auto, unfolding(crate::specs::Canonical::root_lines, cyc_text::specs::Written::lines_text))]
 fn push_root(text: &mut Vec<u8>, net: &Netlist) -> Result<(), AllocError>
-    ensures { OnOk result (text.new.items ≡ text.old.items ++ spec.lines_text (spec.root_lines net.now.nets net.now.root)) }
+    ensures { OnOk result (text.new.items ≡ text.old.items ++ lines_text (spec.root_lines net.now.nets net.now.root)) }
 {
     let _ = net.net_count();
     let Some(root) = net.root() else {
@@ -360,7 +335,7 @@ fn push_root(text: &mut Vec<u8>, net: &Netlist) -> Result<(), AllocError>
 
 /// Adds the lines of the forks.
 fn push_forks(text: &mut Vec<u8>, net: &Netlist) -> Result<(), AllocError>
-    ensures { OnOk result (text.new.items ≡ text.old.items ++ spec.lines_text (map (spec.fork_line net.now.nets) net.now.forks)) }
+    ensures { OnOk result (text.new.items ≡ text.old.items ++ lines_text (map (spec.fork_line net.now.nets) net.now.forks)) }
 {
     let _ = net.net_count();
     for at in 0..net.fork_count() {

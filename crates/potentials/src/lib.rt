@@ -1,15 +1,13 @@
 //! Numbers of events that rise along each rule by at least its weight, first numbers for a search, and arrivals.
+//!
+//! Arrivals are the greatest weights over all walks from a root. The folder `search/` proposes walks and promises nothing;
+//! what it proposes is followed and tested by proved code.
 #![tactic(auto)]
 
 mod checks;
-mod choices;
-mod heaviest;
 mod makers;
-mod numbered;
-mod pending;
-mod proposals;
 mod rounds;
-mod settled;
+pub mod search;
 mod starts;
 #[cfg(test)]
 mod tests;

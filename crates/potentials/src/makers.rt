@@ -4,6 +4,7 @@ ghost use Rattle.rule_system.specs.Weights.{HasNoGain, AreArrivals};
 ghost use Rattle.cyc_num.specs.Within.{LiesWithin};
 
 use crate::rounds::settle;
+use crate::search::Reduced;
 use crate::starts::path_weights;
 use crate::times::Times;
 use cyc_num::Ratio;
@@ -15,6 +16,9 @@ use std::thread::Threads;
 pub trait ArrivalMaker {
     /// The arrivals from the root: for each event the greatest weight, `bottom * delay - top * offset`, over all
     /// walks from the root to it, in picoseconds scaled by the period's bottom.
+    ///
+    /// Of `reduced` nothing is asked, and the arrivals are the same whatever it is: it is what a search for the period
+    /// leaves, made once for a system and a period, and saves time for each root where it fits them.
     fn arrivals<R: Threads + Sync>(
         &self,
         rt: &R,
@@ -22,6 +26,7 @@ pub trait ArrivalMaker {
         system: &System,
         root: u32,
         period: Ratio,
+        reduced: &Reduced,
     ) -> Result<Times, AllocError>
         requires top { period.top ≤ 32768000000 }
         requires bottom { period.bottom ≤ 491520 }
@@ -32,7 +37,7 @@ pub trait ArrivalMaker {
         ensures within { IfOk result (λ x. All (LiesWithin 17000000000000000) x) };
 }
 
-/// Finds arrivals on one thread.
+/// Finds arrivals on one thread: by one search of Dijkstra's over the reduced weights, which is tested.
 #[derive(Clone, Copy, Debug, Default)]
 pub struct Plain;
 
@@ -44,10 +49,12 @@ impl ArrivalMaker for Plain {
         system: &System,
         root: u32,
         period: Ratio,
+        reduced: &Reduced,
     ) -> Result<Times, AllocError> {
         let top = period.top();
         let bottom = period.bottom();
-        let mut times = path_weights(alloc, system, root, top, bottom)?;
+        let order = reduced.rules_from(alloc, root)?;
+        let mut times = path_weights(alloc, system, &order, root, top, bottom)?;
         settle(system, root, top, bottom, &mut times);
         Ok(Times::of(times))
     }

@@ -3,7 +3,7 @@ ghost use Rattle.rule_system.specs.Weights.{time_of, AreAttained};
 ghost use Rattle.cyc_num.specs.Within.{LiesWithin};
 ghost use Rattle.potentials.specs.Times.{AllReachable, ArePathWeights};
 
-use crate::proposals::propose;
+use crate::search::Reduced;
 use crate::times::Times;
 use crate::trees::grow;
 use cyc_num::Ratio;
@@ -27,14 +27,16 @@ pub fn first_weights(
     ensures root { IfOk result (λ x. time_of x root ≡ pos 0) }
     ensures within { IfOk result (λ x. All (LiesWithin 17000000000000000) x) }
 {
-    let weights = path_weights(alloc, system, root, period.top(), period.bottom())?;
+    let order = Reduced::at(alloc, system, period)?.rules_from(alloc, root)?;
+    let weights = path_weights(alloc, system, &order, root, period.top(), period.bottom())?;
     Ok(Times::of(weights))
 }
 
-/// The weights of paths from the root.
+/// The weights of paths from the root, of proposed rules as far as they lead.
 pub fn path_weights(
     alloc: Global,
     system: &System,
+    order: &[u32],
     root: u32,
     top: u64,
     bottom: u64,
@@ -49,7 +51,6 @@ pub fn path_weights(
     let events = system.events() as usize;
     let mut times = vec![in alloc; 0; events]?;
     let mut reached = vec![in alloc; false; events]?;
-    let order = propose(alloc, system, root, top, bottom)?;
-    grow(system, &order, root, top, bottom, &mut times, &mut reached);
+    grow(system, order, root, top, bottom, &mut times, &mut reached);
     Ok(times)
 }

@@ -1,6 +1,7 @@
 ghost use Rattle.std.specs.Prelude.{◌≡◌, IfOk};
 ghost use Rattle.rule_system.specs.InverterRing.{inverter_ring};
 
+use crate::search::Reduced;
 use crate::{ArrivalMaker, Plain, Times, feasible, first_weights};
 use cyc_num::Ratio;
 use rule_system::inverter_ring::ring_has_its_period;
@@ -64,7 +65,8 @@ fn arrivals_of_the_ring(rt: HostRuntime) -> Result<(), Fail> {
     assert!(rt; !feasible(&system, Ratio::of(65, 1), &arrivals));
     let first = first_weights(rt.alloc(), &system, 0, period)?;
     assert_eq!(rt; first.list(), arrivals.as_slice());
-    let found = Plain.arrivals(&rt, rt.alloc(), &system, 0, period)?;
+    let reduced = Reduced::at(rt.alloc(), &system, period)?;
+    let found = Plain.arrivals(&rt, rt.alloc(), &system, 0, period, &reduced)?;
     assert_eq!(rt; found.list(), arrivals.as_slice());
     Ok(())
 }

@@ -5,7 +5,7 @@ pub mod Erase
 pub mod Ratios
 pub mod Arrivals
 pub mod Firsts
-pub mod Rows
+pub mod Parts
 pub mod RingFacts
 pub mod Sums
 pub mod Search

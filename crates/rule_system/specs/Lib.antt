@@ -6,3 +6,4 @@ pub mod FirstCycle
 pub mod CriticalCycle
 pub mod InverterRing
 pub mod Plain
+pub mod Rows

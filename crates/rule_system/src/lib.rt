@@ -12,6 +12,7 @@ mod cycles;
 pub mod inverter_ring;
 pub mod laws;
 pub mod plain;
+mod rows;
 mod rules;
 mod systems;
 #[cfg(test)]

@@ -1,7 +1,7 @@
 use Rattle.std.proofs.Common.{arith}
 use Rattle.std.proofs.lemmas.Option.{slice_get-get_or}
 use Rattle.netlist_reader.specs.Canonical as spec
-use Rattle.netlist_reader.proofs.Texts.{line_written, all_written}
+use Rattle.cyc_text.proofs.WrittenLemmas.{line_written, all_written}
 use Rattle.netlist_reader.proofs.writing.push_block.Goals as goal
 
 pub loop-tick-preserved : goal.loop-tick-preserved

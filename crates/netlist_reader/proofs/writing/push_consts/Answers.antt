@@ -1,6 +1,6 @@
 use Rattle.std.proofs.Common.{arith}
 use Rattle.netlist_reader.specs.Canonical as spec
-use Rattle.netlist_reader.proofs.Texts.{line_written, all_written}
+use Rattle.cyc_text.proofs.WrittenLemmas.{line_written, all_written}
 use Rattle.netlist_reader.proofs.writing.push_consts.Goals as goal
 
 pub loop-at-preserved : goal.loop-at-preserved

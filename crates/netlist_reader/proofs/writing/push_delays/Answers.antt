@@ -1,6 +1,7 @@
 use Rattle.std.proofs.Common.{arith}
 use Rattle.netlist_reader.specs.Canonical as spec
-use Rattle.netlist_reader.proofs.Texts.{block_written, all_blocks_written, delay_lines_is, of_library}
+use Rattle.cyc_text.proofs.WrittenLemmas.{block_written, all_blocks_written}
+use Rattle.netlist_reader.proofs.Texts.{delay_lines_is, of_library}
 use Rattle.netlist_reader.proofs.writing.push_delays.Goals as goal
 
 pub cell_of-cell-requires : goal.cell_of-cell-requires

@@ -1,6 +1,7 @@
 use Rattle.std.proofs.Common.{arith}
 use Rattle.netlist_reader.specs.Canonical as spec
-use Rattle.netlist_reader.proofs.Texts.{line_written, all_written, inst_line_is, of_library, pins_stand}
+use Rattle.cyc_text.proofs.WrittenLemmas.{line_written, all_written}
+use Rattle.netlist_reader.proofs.Texts.{inst_line_is, of_library, pins_stand}
 use Rattle.netlist_reader.proofs.writing.push_insts.Goals as goal
 
 pub cell_of-cell-requires : goal.cell_of-cell-requires

@@ -1,6 +1,7 @@
 use Rattle.std.proofs.Common.{◌≡◌, ◌++◌, map, drop}
+use Rattle.cyc_text.specs.Written.{lines_text}
 use Rattle.netlist_reader.specs.Canonical as spec
 use Rattle.netlist_reader.proofs.writing.push_nets.Given as goal
 
 abbrev pub invariant-loop-at : goal.invariant-loop-at
-invariant-loop-at l = l.text.items ++ spec.lines_text (map spec.net_line (drop l.at l.net.nets)) ≡ l.fn.text.items ++ spec.lines_text (map spec.net_line l.net.nets)
+invariant-loop-at l = l.text.items ++ lines_text (map spec.net_line (drop l.at l.net.nets)) ≡ l.fn.text.items ++ lines_text (map spec.net_line l.net.nets)

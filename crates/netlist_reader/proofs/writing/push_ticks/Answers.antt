@@ -1,8 +1,9 @@
 use Rattle.std.proofs.Common.{◌++◌, ◌∙◌, ap, length, map, refl, arith, List, ℕ}
 use Rattle.std.proofs.lemmas.Option.{slice_get_read}
 use Rattle.netlist_model.specs.Sound.{IsTick}
+use Rattle.cyc_text.specs.Written.{lines_text}
 use Rattle.netlist_reader.specs.Canonical as spec
-use Rattle.netlist_reader.proofs.Texts.{block_written, all_blocks_written}
+use Rattle.cyc_text.proofs.WrittenLemmas.{block_written, all_blocks_written}
 use Rattle.netlist_reader.proofs.TickBlocks.{flat_lines, in_block, Block}
 use Rattle.netlist_reader.proofs.writing.push_ticks.Goals as goal
 
@@ -20,4 +21,4 @@ loop-block-preserved c =
 pub returns : goal.returns
 returns c =
     all_blocks_written (λ (b : Block). map (spec.tick_line c.args.net.now.nets) b.items) c.tick_blocks-blocks.result.now c.loop-block.block-index _ _ (omega arith) c.loop-block.invariant
-    ∙ ap (λ (ls : List (List (List ℕ))). c.args.text.now.items ++ spec.lines_text ls) (flat_lines (spec.tick_line c.args.net.now.nets) c.tick_blocks-blocks.result.now ∙ ap (map (spec.tick_line c.args.net.now.nets)) c.tick_blocks-blocks.ensures)
+    ∙ ap (λ (ls : List (List (List ℕ))). c.args.text.now.items ++ lines_text ls) (flat_lines (spec.tick_line c.args.net.now.nets) c.tick_blocks-blocks.result.now ∙ ap (map (spec.tick_line c.args.net.now.nets)) c.tick_blocks-blocks.ensures)

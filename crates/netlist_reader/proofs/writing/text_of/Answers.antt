@@ -1,5 +1,5 @@
 use Rattle.netlist_reader.specs.Canonical.{canonical_lines, canonical_text}
-use Rattle.netlist_reader.proofs.Texts.{first_section, next_section}
+use Rattle.cyc_text.proofs.WrittenLemmas.{first_section, next_section}
 use Rattle.netlist_reader.proofs.writing.text_of.Goals as goal
 
 pub returns : goal.returns

@@ -1,10 +1,7 @@
-use Rattle.std.proofs.Common.{ap, ◌∙◌}
-use Rattle.netlist_model.specs.Circuit.{fork_of}
+use Rattle.std.proofs.Common.{◌∙◌}
 use Rattle.netlist_model.specs.declared.parts.Fork.{Fork}
-use Rattle.netlist_model.proofs.Tables.{place_named}
+use Rattle.netlist_model.proofs.Tables.{place_among}
 use Rattle.netlist_model.proofs.forks.Forks.find.Goals as goal
 
 pub returns-clause-place : goal.returns-clause-place
-returns-clause-place c =
-    c.place.ensures.place ∙ place_named (λ (f : Fork). f.name) c.self.inside.items.items c.self.inside.names.keys c.args.name.now c.self.invariant.0
-    ∙ ap (λ forks. fork_of forks c.args.name.now) c.self.view_is
+returns-clause-place c = c.find.ensures.place ∙ place_among (λ (i : Fork). i.name) c.self.inside.items.items c.args.self.now c.self.inside.names c.args.name.now c.self.invariant.0 c.self.view_is

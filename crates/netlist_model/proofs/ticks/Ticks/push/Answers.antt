@@ -1,37 +1,71 @@
-use Rattle.std.proofs.Common.{◌≡◌, ◌∙◌, ◌+◌, sym, ap, refl, length, Some, option_map, is_some, false, arith, rules, ◌++◌, ◌∷◌, []}
+use Rattle.std.proofs.Common.{◌≡◌, ◌<◌, ◌∙◌, ◌+◌, sym, ap, refl, subst, length, Some, option_map, is_some, set, false, arith, rules, ◌++◌, ◌∷◌, [], slice_get}
 use Rattle.std.proofs.lemmas.List.{length_push}
-use Rattle.indexmap.specs.IndexMap.{get}
-use Rattle.netlist_model.specs.Blocks.{pair_eq}
+use Rattle.std.proofs.lemmas.Option.{slice_get_read}
+use Rattle.std.specs.Option.{IfSome}
+use Rattle.std.specs.Vec.{vec_capacity, vec_len}
+use Rattle.netlist_model.specs.Blocks.{PutLast}
 use Rattle.netlist_model.specs.Circuit.{tick_of}
-use Rattle.netlist_model.specs.declared.ticks.Place.{Place}
-use Rattle.netlist_model.proofs.BlockLemmas.{put_flat, put_index, grown_flat, grown_index, has_tick, index_same, none_of, lists, flat}
+use Rattle.netlist_model.specs.Keyed.{told_of}
+use Rattle.netlist_model.specs.declared.pairs.Place.{Place}
+use Rattle.netlist_model.proofs.BlockLemmas.{Block, grown_flat, grown_index, index_same, put_flat, put_in, put_index, has_tick, none_of, lists, flat}
 use Rattle.netlist_model.proofs.CountLemmas.{looked_up, told_push, told_same}
-use Rattle.netlist_model.proofs.Tables.{on_ok_at}
+use Rattle.netlist_model.proofs.Tables.{pushed_of}
 use Rattle.netlist_model.proofs.ticks.Ticks.push.Goals as goal
 
-pub invariant_of-self-in_err-block : goal.invariant_of-self-in_err-block
-invariant_of-self-in_err-block c = (
-  c.self.invariant.0 ∙ ap length (sym (grown_flat _ _ c.in_err-block.ensures.err)),
-  index_same _ (λ s t. option_map (λ (p : Place). p.block) (get pair_eq c.self.inside.places (s, t))) _ (grown_index _ _ _ c.in_err-block.ensures.err c.self.invariant.1) (λ s t. rw c.reserve.ensures.entries refl),
-  told_same _ _ (λ s t. option_map (λ (p : Place). p.count) (get pair_eq c.self.inside.places (s, t))) _ c.self.invariant.2 (grown_flat _ _ c.in_err-block.ensures.err) (λ s t. rw c.reserve.ensures.entries refl),
-)
+pub invariant_of-self : goal.invariant_of-self
+invariant_of-self c =
+    let grown = c.in_err-block.ensures.grown in (
+      c.self.invariant.0 ∙ ap length (sym (grown_flat _ _ grown)),
+      grown_index _ _ _ grown c.self.invariant.1,
+      told_same _ _ _ _ c.self.invariant.2 (grown_flat _ _ grown) (λ s t. refl),
+    )
+
+pub invariant_of-self-in_err-insert : goal.invariant_of-self-in_err-insert
+invariant_of-self-in_err-insert c =
+    let grown = c.in_ok-block.ensures.grown in (
+      c.self.invariant.0 ∙ ap length (sym (grown_flat _ _ grown)),
+      index_same _ _ _ (grown_index _ _ _ grown c.self.invariant.1) (λ s t. ap (option_map (λ (p : Place). p.block)) (c.in_err-insert.ensures.err s t)),
+      told_same _ _ _ _ c.self.invariant.2 (grown_flat _ _ grown) (λ s t. ap (option_map (λ (p : Place). p.count)) (c.in_err-insert.ensures.err s t)),
+    )
 
 pub invariant_of-self-2 : goal.invariant_of-self-2
 invariant_of-self-2 c =
-    let old = c.self.inside.places in
-    let place : Place = record { block = c.in_ok-block.block; count = c.args.tick.count } in
-    let flat_is = put_flat (lists c.self.inside.blocks.items) (lists c.put_last.new.blocks.items) c.in_ok-block.block c.args.tick c.in_ok-block.ensures.ok in
+    let mid = c.make_room.new.blocks.items in
+    let k = c.in_ok-block.block in
+    let tick = c.args.tick in
+    let v = c.index_mut-last.result.now in
+    let last : k + 1 ≡ length mid = c.in_ok-block.ensures.last in
+    let at : slice_get mid k ≡ Some v = slice_get_read mid (length mid) k v refl (omega (arith, last)) c.index_mut-last.ensures.value in
+    let room : vec_len v < vec_capacity v = subst (λ o. IfSome o (λ (b : Block). vec_len b < vec_capacity b)) at c.in_ok-block.ensures.room in
+    let pushed : c.push.new.self.items ≡ v.items ++ tick ∷ [] = c.push.ensures.items ∙ pushed_of c.push.result _ _ (c.push.ensures.succeeds room) in
+    let before = lists c.self.inside.blocks.items in
+    let after = lists (set mid k c.push.new.self) in
+    let put : PutLast before after k tick = put_in c.self.inside.blocks.items mid k v c.push.new.self tick c.in_ok-block.ensures.grown last c.index_mut-last.ensures.value pushed in
+    let old = told_of c.self.inside.pairs in
+    let place : Place = record { block = k; count = tick.count } in
+    let flat_is = put_flat before after k tick put in
     let one_more : c.in-Some.count ≡ c.self.inside.count + 1 = search rules in
-    let grows : length (flat (lists c.put_last.new.blocks.items)) ≡ length (flat (lists c.self.inside.blocks.items)) + 1 = ap length flat_is ∙ length_push (flat (lists c.self.inside.blocks.items)) c.args.tick in
-    let inserted = on_ok_at c.insert.result c.insert.ensures.updates (c.insert.ensures.succeeds c.in_ok-reserve.ensures.ok) in
-    let fresh : is_some (tick_of (flat (lists c.self.inside.blocks.items)) c.args.tick.source c.args.tick.target) ≡ false = ap (λ ts. is_some (tick_of ts c.args.tick.source c.args.tick.target)) c.self.view_is ∙ c.requires in
-    let absent = has_tick (lists c.self.inside.blocks.items) (λ s t. option_map (λ (p : Place). p.block) (get pair_eq old (s, t))) c.args.tick.source c.args.tick.target c.self.invariant.1 ∙ fresh in (
+    let grows : length (flat after) ≡ length (flat before) + 1 = ap length flat_is ∙ length_push (flat before) tick in
+    let fresh : is_some (tick_of (flat before) tick.source tick.target) ≡ false = ap (λ ts. is_some (tick_of ts tick.source tick.target)) c.self.view_is ∙ c.requires in
+    let absent = has_tick before (λ s t. option_map (λ (p : Place). p.block) (old s t)) tick.source tick.target c.self.invariant.1 ∙ fresh in (
       omega (arith, c.self.invariant.0),
-      put_index (lists c.self.inside.blocks.items) (lists c.put_last.new.blocks.items) c.in_ok-block.block c.args.tick (λ s t. option_map (λ (p : Place). p.block) (get pair_eq old (s, t))) _ c.in_ok-block.ensures.ok c.self.invariant.1 (none_of _ absent)
-          (λ u w. looked_up (λ (p : Place). p.block) _ (Some place) (get pair_eq old (u, w)) _ (inserted.0 (u, w) ∙ rw c.reserve.ensures.entries refl)),
-      rw flat_is (told_push (flat (lists c.self.inside.blocks.items)) c.args.tick (λ s t. option_map (λ (p : Place). p.count) (get pair_eq old (s, t))) _ c.self.invariant.2 fresh
-          (λ u w. looked_up (λ (p : Place). p.count) _ (Some place) (get pair_eq old (u, w)) _ (inserted.0 (u, w) ∙ rw c.reserve.ensures.entries refl))),
+      put_index before after k tick (λ s t. option_map (λ (p : Place). p.block) (old s t)) _ put c.self.invariant.1 (none_of _ absent)
+          (λ u w. looked_up (λ (p : Place). p.block) _ (Some place) (old u w) _ (c.in_ok-insert.ensures.ok u w)),
+      rw flat_is (told_push (flat before) tick (λ s t. option_map (λ (p : Place). p.count) (old s t)) _ c.self.invariant.2 fresh
+          (λ u w. looked_up (λ (p : Place). p.count) _ (Some place) (old u w) _ (c.in_ok-insert.ensures.ok u w))),
     )
 
 pub returns-clause-ok : goal.returns-clause-ok
-returns-clause-ok c = put_flat (lists c.self.inside.blocks.items) (lists c.put_last.new.blocks.items) c.in_ok-block.block c.args.tick c.in_ok-block.ensures.ok ∙ ap (λ ts. ts ++ c.args.tick ∷ []) c.self.view_is
+returns-clause-ok c =
+    let mid = c.make_room.new.blocks.items in
+    let k = c.in_ok-block.block in
+    let tick = c.args.tick in
+    let v = c.index_mut-last.result.now in
+    let last : k + 1 ≡ length mid = c.in_ok-block.ensures.last in
+    let at : slice_get mid k ≡ Some v = slice_get_read mid (length mid) k v refl (omega (arith, last)) c.index_mut-last.ensures.value in
+    let room : vec_len v < vec_capacity v = subst (λ o. IfSome o (λ (b : Block). vec_len b < vec_capacity b)) at c.in_ok-block.ensures.room in
+    let pushed : c.push.new.self.items ≡ v.items ++ tick ∷ [] = c.push.ensures.items ∙ pushed_of c.push.result _ _ (c.push.ensures.succeeds room) in
+    let before = lists c.self.inside.blocks.items in
+    let after = lists (set mid k c.push.new.self) in
+    let put : PutLast before after k tick = put_in c.self.inside.blocks.items mid k v c.push.new.self tick c.in_ok-block.ensures.grown last c.index_mut-last.ensures.value pushed in
+    put_flat before after k tick put ∙ ap (λ ts. ts ++ tick ∷ []) c.self.view_is

@@ -1,0 +1,6 @@
+pub mod Keeping
+pub mod Limit
+pub mod Reach
+pub mod Knowing
+pub mod Moves
+pub mod Samples

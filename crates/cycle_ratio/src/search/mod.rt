@@ -1,0 +1,8 @@
+//! A search for the period whose answer is checked where it is used: nothing is promised here but an end.
+
+mod cycles;
+mod evaluation;
+mod improvement;
+mod policy;
+
+pub use improvement::{Proposal, numbers_of, propose};

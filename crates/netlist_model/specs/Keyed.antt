@@ -1,0 +1,43 @@
+-- How names, drivers and ticks are found; no contract of the crate's public calls speaks of it.
+use Rattle.std.specs.Prelude.{◌≡◌, ℕ, ◌+◌, ◌*◌, ◌<◌, ◌==◌, nat_lt, true, if◌then◌else◌, List, All, Option, Some, None, is_some, option_and_then, option_map, slice_get, unwrap_or}
+use Rattle.std.specs.declared.cmp.Ordering.{Ordering}
+use Rattle.std.specs.Map.{lookup}
+use Rattle.std.specs.Ordering.{is_eq, nat_cmp, ordering_then}
+use Rattle.netlist_model.specs.Circuit.{place_of}
+use Rattle.netlist_model.specs.Deletions.{moved_up}
+
+-- names in order, each with a number of its own: a name is found at its number, and all numbers are below the next
+pub record IsKeyed (names : List (List ℕ)) (numbers : List ℕ) (number : List ℕ → Option ℕ) (next : ℕ) : Type 0 where
+  pub found : (name : List ℕ) → number name ≡ option_and_then (slice_get numbers) (place_of name names)
+  pub below : All (λ n. n < next) numbers
+
+-- the place that is told at a place, if one is
+abbrev pub told_at : List (Option ℕ) → ℕ → Option ℕ
+told_at places n = unwrap_or (slice_get places n) None
+
+-- the place of what may be there, once the entry at `gone` is away
+abbrev pub place_after : ℕ → Option ℕ → Option ℕ
+place_after gone None = None
+place_after gone (Some k) = if k == gone then None else Some (moved_up gone k)
+
+-- the order of pairs of numbers
+abbrev pub pair_cmp : (ℕ × ℕ) → (ℕ × ℕ) → Ordering
+pair_cmp a b = ordering_then (nat_cmp a.0 b.0) (nat_cmp a.1 b.1)
+
+-- the numbers of two events, if both have one
+abbrev pub key_of : List ℕ → ℕ → ℕ → Option (ℕ × ℕ)
+key_of numbers source target = option_and_then (λ a. option_map (λ b. (a, b)) (slice_get numbers target)) (slice_get numbers source)
+
+-- what a table, of entries by pairs of numbers and of the events' numbers, tells of two events
+abbrev pub told_of : {A : Type 0} → (List ((ℕ × ℕ) × A) × List ℕ) → ℕ → ℕ → Option A
+told_of table source target = option_and_then (λ k. lookup (λ q. is_eq (pair_cmp k q)) table.0) (key_of table.1 source target)
+
+-- numbers that differ, all below the next; what is found is found at numbers below it
+pub record IsNumbered {A : Type 0} (entries : List ((ℕ × ℕ) × A)) (numbers : List ℕ) (next : ℕ) : Type 0 where
+  pub once : (i j n : ℕ) → slice_get numbers i ≡ Some n → slice_get numbers j ≡ Some n → i ≡ j
+  pub below : (i n : ℕ) → slice_get numbers i ≡ Some n → n < next
+  pub known : (a b : ℕ) → is_some (lookup (λ q. is_eq (pair_cmp (a, b) q)) entries) ≡ true → (a < next) × (b < next)
+
+-- an event, before a net was taken away
+abbrev pub event_before : ℕ → ℕ → ℕ
+event_before gone event = if nat_lt event (2 * gone) then event else event + 2

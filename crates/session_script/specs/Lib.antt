@@ -1,0 +1,4 @@
+pub mod Calls
+pub mod FaultyLines
+pub mod ScriptLines
+pub mod Scripts

@@ -1,0 +1,18 @@
+//! Scripts of sessions: the calls of a session, one a line.
+//!
+//! The one promise: `read` answers the calls that the lines say, or the first line at fault. The definitions stand in `specs/`: what a
+//! line says in `ScriptLines`, a whole script in `Scripts`. What an edit line says is `netlist_reader`'s; no line is read here that it reads.
+#![tactic(auto)]
+
+mod calls;
+mod faults;
+mod laws;
+mod lines;
+mod scripts;
+#[cfg(test)]
+mod tests;
+
+pub use calls::{Call, Script};
+pub use faults::ScriptFault;
+pub use laws::{accepted_scripts_say_their_calls, first_faulty_line_is_told};
+pub use scripts::read;
