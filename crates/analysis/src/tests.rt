@@ -5,6 +5,7 @@ ghost use Rattle.analysis.specs.Forks.{IsFork};
 use crate::{AnalyseFault, Analysis, analyse};
 use cyc_num::Ratio;
 use fork_slack::ForkOf;
+use potentials::search::Reduced;
 use potentials::{ArrivalMaker, Plain, Times};
 use rule_system::{Rule, System};
 use std::alloc::{AllocError, Global};
@@ -154,9 +155,10 @@ impl ArrivalMaker for Counting {
         system: &System,
         root: u32,
         period: Ratio,
+        reduced: &Reduced,
     ) -> Result<Times, AllocError> {
         self.calls.set(self.calls.get().saturating_add(1));
-        Plain.arrivals(rt, alloc, system, root, period)
+        Plain.arrivals(rt, alloc, system, root, period, reduced)
     }
 }
 
