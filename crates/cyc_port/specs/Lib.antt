@@ -4,4 +4,5 @@ pub mod Files
 pub mod MemoryShelf
 pub mod MemorySink
 pub mod Rows
+pub mod Seen
 pub mod Written

@@ -8,7 +8,8 @@ use Rattle.cyc_port.specs.declared.shelf.ShelfFault.{ShelfFault}
 use Rattle.cyc_port.specs.declared.shelf.ShelfFault.TheVariants.{Failed, TooLong, Memory}
 use Rattle.cyc_port.specs.Counts.{raised}
 use Rattle.cyc_port.specs.Faults.{answer_of_bytes}
-use Rattle.cyc_port.specs.Rows.{file_of, with_fault, with_long, change_first}
+use Rattle.cyc_port.specs.Rows.{files_of, file_of, count_of, with_fault, with_long, change_first}
+use Rattle.cyc_port.specs.Seen.{Seen}
 
 -- the files with their counts, the numbers of the calls that fail, the faults of all names without a file, and the calls so far
 pub record ShelfState : Type 0 where
@@ -20,6 +21,14 @@ pub record ShelfState : Type 0 where
 -- a shelf that nobody has read from
 abbrev pub new_shelf : List NamedFile → List ℕ → ShelfState
 new_shelf files fail = record { files = files; fail = fail; other = 0; calls = 0 }
+
+-- its files and the counts of each name; names without a file share one count of faults
+abbrev pub seen_of : ShelfState → Seen
+seen_of shelf = record {
+  files = Some (files_of shelf.files);
+  faults = count_of (λ f. f.faults) shelf.other shelf.files;
+  long_reads = count_of (λ f. f.long) 0 shelf.files;
+}
 
 -- a name's file answers its bytes, or that they are too many; without a file the read fails
 abbrev pub answer_from : Option NamedFile → Result (List ℕ) ShelfFault

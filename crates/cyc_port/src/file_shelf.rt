@@ -27,8 +27,8 @@ pub struct FileShelf<R: Files> {
 impl<R: Files> FileShelf<R> {
     /// A shelf over the files that `rt` opens, with both counts at 0.
     pub fn new(rt: R) -> Self
-        ensures faults { (name : List ℕ) → ⟦<FileShelf<R> as Shelf>⟧.faults result name ≡ 0 }
-        ensures long_reads { (name : List ℕ) → ⟦<FileShelf<R> as Shelf>⟧.long_reads result name ≡ 0 }
+        ensures faults { (name : List ℕ) → (⟦<FileShelf<R> as Shelf>⟧.seen result).faults name ≡ 0 }
+        ensures long_reads { (name : List ℕ) → (⟦<FileShelf<R> as Shelf>⟧.seen result).long_reads name ≡ 0 }
     {
         FileShelf {
             rt,
@@ -88,11 +88,7 @@ pub(crate) fn text_of<F: Read + Drop>(
 }
 
 impl<R: Files> Shelf for FileShelf<R> {
-    ghost files = { λ _. None };
-
-    ghost faults = { λ s _. s.faults };
-
-    ghost long_reads = { λ s _. s.long };
+    ghost seen = { λ s. record { files = None; faults = λ _. s.faults; long_reads = λ _. s.long } };
 
     fn read_all(&mut self, alloc: Global, name: &str) -> Result<Text, ShelfFault> {
         let answer = text_of(fs::open(&self.rt, name), alloc);

@@ -1,9 +1,10 @@
 // A shelf in memory, which fails at chosen calls.
-ghost use Rattle.std.specs.Prelude.{◌≡◌, ℕ, List, IfOk, IsErrOf, Some, position, is_some};
-ghost use Rattle.cyc_port.specs.Counts.{Rose, NoneFell};
+ghost use Rattle.std.specs.Prelude.{◌≡◌, IfOk, IsErrOf, position, is_some};
+ghost use Rattle.cyc_port.specs.Counts.{Rose};
 ghost use Rattle.cyc_port.specs.Files.{IsFile, IsLongFile};
-ghost use Rattle.cyc_port.specs.Rows.{files_of, file_of, count_of, has_name, with_fault, with_long, change_first};
-ghost use Rattle.cyc_port.specs.MemoryShelf.{new_shelf, answer_of, Answers, shelf_after};
+ghost use Rattle.cyc_port.specs.Rows.{file_of, has_name, with_fault, with_long, change_first};
+ghost use Rattle.cyc_port.specs.MemoryShelf.{new_shelf, answer_of, Answers, seen_of, shelf_after};
+ghost use Rattle.cyc_port.specs.Seen.{Later};
 
 use crate::shelf::FILE_LIMIT;
 use crate::{Shelf, ShelfFault};
@@ -48,9 +49,7 @@ impl MemShelf {
     /// A shelf of these files, with the counts that they bring. Call number n, from 0, fails where n is in `fail`.
     pub fn new(files: Vec<NamedFile>, fail: Vec<u64>) -> MemShelf
         ensures state { result ≡ new_shelf files.items fail.items }
-        ensures files { ⟦<MemShelf as Shelf>⟧.files result ≡ Some (files_of files.items) }
-        ensures faults { (name : List ℕ) → ⟦<MemShelf as Shelf>⟧.faults result name ≡ count_of (λ f. f.faults) 0 files.items name }
-        ensures long_reads { (name : List ℕ) → ⟦<MemShelf as Shelf>⟧.long_reads result name ≡ count_of (λ f. f.long) 0 files.items name }
+        ensures seen { ⟦<MemShelf as Shelf>⟧.seen result ≡ seen_of (new_shelf files.items fail.items) }
     {
         MemShelf {
             files,
@@ -128,11 +127,7 @@ fn raise_long(files: &mut [NamedFile], name: &[u8])
 }
 
 impl Shelf for MemShelf {
-    ghost files = { λ s. Some (files_of s.files) };
-
-    ghost faults = { λ s name. count_of (λ f. f.faults) s.other s.files name };
-
-    ghost long_reads = { λ s name. count_of (λ f. f.long) 0 s.files name };
+    ghost seen = { seen_of };
 
     fn read_all(&mut self, alloc: Global, name: &str) -> Result<Text, ShelfFault>
         // When the call fails, and what it leaves.
@@ -140,13 +135,13 @@ impl Shelf for MemShelf {
         ensures after { self.new ≡ shelf_after result self.old name.now }
 
         // What each shelf promises.
-        ensures files { Some (files_of self.new.files) ≡ Some (files_of self.old.files) }
-        ensures counts { NoneFell (count_of (λ f. f.faults) self.old.other self.old.files) (count_of (λ f. f.faults) self.new.other self.new.files) }
-        ensures long_counts { NoneFell (count_of (λ f. f.long) 0 self.old.files) (count_of (λ f. f.long) 0 self.new.files) }
-        ensures text { IfOk result (IsFile (Some (files_of self.old.files)) name.now) }
-        ensures failed { IsErrOf result ShelfFault.Failed → Rose (count_of (λ f. f.faults) self.old.other self.old.files name.now) (count_of (λ f. f.faults) self.new.other self.new.files name.now) }
-        ensures too_long { IsErrOf result ShelfFault.TooLong → Rose (count_of (λ f. f.long) 0 self.old.files name.now) (count_of (λ f. f.long) 0 self.new.files name.now) }
-        ensures is_long { IsErrOf result ShelfFault.TooLong → IsLongFile (Some (files_of self.old.files)) name.now }
+        ensures later { Later (seen_of self.old) (seen_of self.new) }
+        ensures text { IfOk result (IsFile (seen_of self.old).files name.now) }
+        ensures failed { IsErrOf result ShelfFault.Failed →
+            Rose ((seen_of self.old).faults name.now) ((seen_of self.new).faults name.now) }
+        ensures too_long { IsErrOf result ShelfFault.TooLong →
+            Rose ((seen_of self.old).long_reads name.now) ((seen_of self.new).long_reads name.now) }
+        ensures is_long { IsErrOf result ShelfFault.TooLong → IsLongFile (seen_of self.old).files name.now }
     {
         self.read(alloc, name.as_bytes())
     }

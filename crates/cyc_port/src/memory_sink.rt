@@ -37,8 +37,8 @@ impl MemSink {
     /// fails; so does a call that finds too little room left. `AllocError` only for want of memory.
     pub fn new(alloc: Global, room: usize, fail: Vec<SinkStop>) -> Result<MemSink, AllocError>
         ensures state { IfOk result (λ s. s ≡ new_sink room fail.items) }
-        ensures written { IfOk result (λ s. ⟦<MemSink as Sink>⟧.written s ≡ Some []) }
-        ensures faults { IfOk result (λ s. ⟦<MemSink as Sink>⟧.faults s ≡ 0) }
+        ensures written { IfOk result (λ s. (⟦<MemSink as Sink>⟧.seen s).written ≡ Some []) }
+        ensures faults { IfOk result (λ s. (⟦<MemSink as Sink>⟧.seen s).faults ≡ 0) }
     {
         Ok(MemSink {
             room,
@@ -52,7 +52,7 @@ impl MemSink {
     /// Lends what was written.
     pub fn bytes(&self) -> &[u8]
         ensures bytes { result.now ≡ self.now.written }
-        ensures written { ⟦<MemSink as Sink>⟧.written self.now ≡ Some result.now }
+        ensures written { (⟦<MemSink as Sink>⟧.seen self.now).written ≡ Some result.now }
     {
         &self.bytes
     }
@@ -100,9 +100,7 @@ fn let_through(fail: &[SinkStop], call: u64, count: usize) -> usize
 }
 
 impl Sink for MemSink {
-    ghost written = { λ s. Some s.written };
-
-    ghost faults = { λ s. s.faults };
+    ghost seen = { λ s. record { written = Some s.written; faults = s.faults } };
 
     fn write_all(&mut self, bytes: &[u8]) -> Result<(), SinkFailed>
         // When the call fails, and what it leaves.

@@ -1,11 +1,11 @@
 // Files by name, as a run sees them.
-ghost use Rattle.std.specs.Prelude.{◌≡◌, ℕ, List, IfOk, IsErrOf};
-ghost use Rattle.std.specs.declared.option.Option.{Option};
+ghost use Rattle.std.specs.Prelude.{◌≡◌, IfOk, IsErrOf};
 ghost use Rattle.cyc_port.specs.declared.shelf.ShelfFault.TheVariants.{Memory};
 ghost use Rattle.std.specs.IoError.{error_kind};
-ghost use Rattle.cyc_port.specs.Counts.{Rose, NoneFell};
+ghost use Rattle.cyc_port.specs.Counts.{Rose};
 ghost use Rattle.cyc_port.specs.Faults.{fault_of};
-ghost use Rattle.cyc_port.specs.Files.{Files, IsFile, IsLongFile};
+ghost use Rattle.cyc_port.specs.Files.{IsFile, IsLongFile};
+ghost use Rattle.cyc_port.specs.Seen.{Seen, Later};
 
 use cyc_text::Text;
 use std::alloc::{AllocError, Global};
@@ -47,14 +47,8 @@ impl From<Error> for ShelfFault {
 
 /// Files by name. Where it tells its files, they never change. No count ever falls.
 pub trait Shelf {
-    // The files by name, where they are told.
-    ghost files: { Self → Option Files };
-
-    // How often a read of the name has failed.
-    ghost faults: { Self → List ℕ → ℕ };
-
-    // How often the name's file was too long.
-    ghost long_reads: { Self → List ℕ → ℕ };
+    // The files by name, where they are told, and the counts of each name.
+    ghost seen: { Self → Seen };
 
     /// The whole file of that name, of at most 16,777,216 bytes.
     ///
@@ -62,12 +56,12 @@ pub trait Shelf {
     /// `Failed` comes only where the name's count of faults rose in this call, `TooLong` only where its count of long reads rose; over
     /// told files `TooLong` means that the file is there and has more than 16,777,216 bytes. `Memory` is want of memory.
     fn read_all(&mut self, alloc: Global, name: &str) -> Result<Text, ShelfFault>
-        ensures files { files self.new ≡ files self.old }
-        ensures counts { NoneFell (faults self.old) (faults self.new) }
-        ensures long_counts { NoneFell (long_reads self.old) (long_reads self.new) }
+        ensures later { Later (seen self.old) (seen self.new) }
 
-        ensures text { IfOk result (IsFile (files self.old) name.now) }
-        ensures failed { IsErrOf result ShelfFault.Failed → Rose (faults self.old name.now) (faults self.new name.now) }
-        ensures too_long { IsErrOf result ShelfFault.TooLong → Rose (long_reads self.old name.now) (long_reads self.new name.now) }
-        ensures is_long { IsErrOf result ShelfFault.TooLong → IsLongFile (files self.old) name.now };
+        ensures text { IfOk result (IsFile (seen self.old).files name.now) }
+        ensures failed { IsErrOf result ShelfFault.Failed →
+            Rose ((seen self.old).faults name.now) ((seen self.new).faults name.now) }
+        ensures too_long { IsErrOf result ShelfFault.TooLong →
+            Rose ((seen self.old).long_reads name.now) ((seen self.new).long_reads name.now) }
+        ensures is_long { IsErrOf result ShelfFault.TooLong → IsLongFile (seen self.old).files name.now };
 }

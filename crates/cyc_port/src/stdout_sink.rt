@@ -16,8 +16,8 @@ pub struct StdoutSink<W: Write + Drop> {
 impl<W: Write + Drop> StdoutSink<W> {
     /// A sink over the writer, with its count at 0.
     pub fn new(out: W) -> Self
-        ensures written { ⟦<StdoutSink<W> as Sink>⟧.written result ≡ W.contents out }
-        ensures faults { ⟦<StdoutSink<W> as Sink>⟧.faults result ≡ 0 }
+        ensures written { (⟦<StdoutSink<W> as Sink>⟧.seen result).written ≡ W.contents out }
+        ensures faults { (⟦<StdoutSink<W> as Sink>⟧.seen result).faults ≡ 0 }
     {
         StdoutSink { out, faults: 0 }
     }
@@ -47,9 +47,7 @@ fn write_pieces<W: Write>(out: &mut W, bytes: &[u8]) -> bool
 }
 
 impl<W: Write + Drop> Sink for StdoutSink<W> {
-    ghost written = { λ s. W.contents s.out };
-
-    ghost faults = { λ s. s.faults };
+    ghost seen = { λ s. record { written = W.contents s.out; faults = s.faults } };
 
     fn write_all(&mut self, bytes: &[u8]) -> Result<(), SinkFailed> {
         if bytes.is_empty() {

@@ -1,6 +1,7 @@
-pub mod Commands
+pub mod Words
 pub mod Answers
-pub mod Findings
-pub mod Verdict
+pub mod Courses
+pub mod Files
+pub mod Commands
 pub mod Runs
-pub mod Content
+pub mod Steps

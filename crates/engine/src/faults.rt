@@ -1,10 +1,10 @@
 //! Why a run has no text.
 ghost use Rattle.std.specs.Prelude.{◌≡◌};
 ghost use Rattle.engine.specs.declared.faults.Fault.TheVariants.{Memory};
-ghost use Rattle.engine.specs.Answers.{line_status, status_of};
+ghost use Rattle.engine.specs.Answers.{source_status, status_of};
 
 use cyc_text::Text;
-use report_writer::FaultLine;
+use report_writer::{FaultLine, Source};
 use std::alloc::{AllocError, AllocFailed};
 
 /// Why a run has no text.
@@ -32,15 +32,16 @@ impl<T: Drop> From<AllocFailed<T>> for Fault {
     }
 }
 
-/// The status of a fault that is told.
-fn line_status(line: &FaultLine) -> u8
-    ensures { result ≡ line_status line.now }
+/// The status of what a line tells of.
+fn source_status(source: Source) -> u8
+    ensures { result ≡ source_status source }
 {
-    match line {
-        FaultLine::Usage => 2,
-        FaultLine::Library(_) => 3,
-        FaultLine::ReadFault(_) | FaultLine::TooLong(_) => 6,
-        _ => 4,
+    match source {
+        Source::Words => 2,
+        Source::Library => 3,
+        Source::Netlist | Source::Edits => 4,
+        Source::Script => 5,
+        Source::Reading => 6,
     }
 }
 
@@ -50,7 +51,7 @@ pub(crate) fn status(answer: &Result<Text, Fault>) -> u8
 {
     match answer {
         Ok(_) => 0,
-        Err(Fault::Line(line)) => line_status(line),
+        Err(Fault::Line(line)) => source_status(line.source()),
         Err(Fault::Memory) => 8,
     }
 }

@@ -26,8 +26,8 @@ fn ended(alloc: Global, status: u8) -> Outcome
 /// Writes a text at once, and tells the status, or 7.
 fn write_text<K: Sink>(alloc: Global, status: u8, text: &[u8], sink: &mut K) -> Outcome
     requires { status < 7 }
-    ensures whole { result.status < 7 → (result.status ≡ status) × Appends (K.written sink.old) (K.written sink.new) text.now }
-    ensures cut { result.status ≡ 7 → Rose (K.faults sink.old) (K.faults sink.new) × AppendsFront (K.written sink.old) (K.written sink.new) text.now }
+    ensures whole { result.status < 7 → (result.status ≡ status) × Appends (K.seen sink.old).written (K.seen sink.new).written text.now }
+    ensures cut { result.status ≡ 7 → Rose (K.seen sink.old).faults (K.seen sink.new).faults × AppendsFront (K.seen sink.old).written (K.seen sink.new).written text.now }
     ensures known { result.status ≤ 7 }
     ensures order { result.order ≡ [] }
 {
@@ -43,10 +43,10 @@ pub(crate) fn write_answer<K: Sink>(
     answer: &Result<Text, Fault>,
     sink: &mut K,
 ) -> Outcome
-    ensures whole { result.status < 7 → (result.status ≡ status_of answer.now) × Appends (K.written sink.old) (K.written sink.new) (text_of answer.now) }
-    ensures cut { result.status ≡ 7 → (status_of answer.now < 7) × Rose (K.faults sink.old) (K.faults sink.new)
-        × AppendsFront (K.written sink.old) (K.written sink.new) (text_of answer.now) }
-    ensures memory { result.status ≡ 8 → Keeps (K.written sink.old) (K.written sink.new) }
+    ensures whole { result.status < 7 → (result.status ≡ status_of answer.now) × Appends (K.seen sink.old).written (K.seen sink.new).written (text_of answer.now) }
+    ensures cut { result.status ≡ 7 → (status_of answer.now < 7) × Rose (K.seen sink.old).faults (K.seen sink.new).faults
+        × AppendsFront (K.seen sink.old).written (K.seen sink.new).written (text_of answer.now) }
+    ensures memory { result.status ≡ 8 → Keeps (K.seen sink.old).written (K.seen sink.new).written }
     ensures known { result.status ≤ 8 }
     ensures order { result.order ≡ [] }
 {

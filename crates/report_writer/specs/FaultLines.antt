@@ -7,7 +7,7 @@ use Rattle.cell_arcs.specs.declared.faults.LibraryFault.TheVariants as library
 use Rattle.netlist_model.specs.declared.faults.StatementFault.{StatementFault}
 use Rattle.netlist_model.specs.declared.faults.StatementFault.TheVariants as statement
 use Rattle.report_writer.specs.declared.faults.FaultLine.{FaultLine}
-use Rattle.report_writer.specs.declared.faults.FaultLine.TheVariants.{Usage, Library, NetSyntax, NetStatement, Undriven, NoRoot, IdleTick, TooManyRules, Unreached, NoReturn, Dead, ReadFault, TooLong}
+use Rattle.report_writer.specs.declared.faults.FaultLine.TheVariants.{Usage, Library, NetSyntax, NetStatement, Undriven, NoRoot, IdleTick, TooManyRules, Unreached, NoReturn, Dead, EditsSyntax, EditsStatement, ScriptSyntax, ScriptTooMany, ReadFault, TooLong}
 
 -- what there is too many of
 abbrev pub limit_word : Limit → List ℕ
@@ -122,6 +122,10 @@ told (TooManyRules count) = codes "netlist H4 " ++ decimal count
 told (Unreached event) = codes "netlist V1 " ++ event
 told (NoReturn event) = codes "netlist V2 " ++ event
 told (Dead events) = codes "netlist V3" ++ spaced events
+told (EditsSyntax line) = codes "edits line " ++ decimal line ++ codes " syntax"
+told (EditsStatement edit e) = codes "edits edit " ++ decimal edit ++ codes " " ++ statement_text e
+told (ScriptSyntax script line) = codes "script " ++ decimal script ++ codes " line " ++ decimal line ++ codes " syntax"
+told (ScriptTooMany script limit) = codes "script " ++ decimal script ++ codes " P2 " ++ limit_word limit
 told (ReadFault name) = codes "read " ++ name
 told (TooLong name) = codes "too long " ++ name
 

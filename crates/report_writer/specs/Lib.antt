@@ -3,3 +3,6 @@ pub mod RulesText
 pub mod Report
 pub mod Rightness
 pub mod FaultLines
+pub mod Sources
+pub mod NetlistLines
+pub mod BenchText

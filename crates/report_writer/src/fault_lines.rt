@@ -3,9 +3,8 @@ ghost use Rattle.std.specs.Prelude.{◌≡◌, ◌++◌, IfOk, OnOk, codes, deci
 ghost use Rattle.report_writer.specs.FaultLines as spec;
 
 use crate::faults::{FaultLine, Names};
-use crate::pieces::push_decimal;
 use cell_arcs::LibraryFault;
-use cyc_text::{Limit, Text};
+use cyc_text::{Limit, Text, push_decimal};
 use netlist_model::StatementFault;
 use std::alloc::{AllocError, Global};
 
@@ -177,21 +176,44 @@ fn push_refused(text: &mut Vec<u8>, fault: LibraryFault) -> Result<(), AllocErro
     push_library(text, fault)
 }
 
-/// Adds that a line has no form of a line.
-fn push_syntax(text: &mut Vec<u8>, line: u64) -> Result<(), AllocError>
-    ensures { OnOk result (text.new.items ≡ text.old.items ++ codes "netlist line " ++ decimal line ++ codes " syntax") }
+/// Adds a code and a line's number, and that the line has no form of its file's lines.
+fn push_syntax(text: &mut Vec<u8>, code: &str, line: u64) -> Result<(), AllocError>
+    ensures { OnOk result (text.new.items ≡ text.old.items ++ code.now ++ decimal line ++ codes " syntax") }
 {
-    push_number(text, "netlist line ", line)?;
+    push_number(text, code, line)?;
     text.extend_from_slice(b" syntax")
 }
 
-/// Adds that a line's statement is refused, and why.
-fn push_line(text: &mut Vec<u8>, line: u64, fault: StatementFault) -> Result<(), AllocError>
-    ensures { OnOk result (text.new.items ≡ text.old.items ++ codes "netlist line " ++ decimal line ++ codes " " ++ spec.statement_text fault) }
+/// Adds a code and a position, and why the statement that stands there is refused.
+fn push_line(
+    text: &mut Vec<u8>,
+    code: &str,
+    position: u64,
+    fault: StatementFault,
+) -> Result<(), AllocError>
+    ensures { OnOk result
+        (text.new.items ≡ text.old.items ++ code.now ++ decimal position ++ codes " " ++ spec.statement_text fault) }
 {
-    push_number(text, "netlist line ", line)?;
+    push_number(text, code, position)?;
     text.extend_from_slice(b" ")?;
     push_statement(text, fault)
+}
+
+/// Adds a script's number, and that a line of it has no form of a call.
+fn push_script_syntax(text: &mut Vec<u8>, script: u64, line: u64) -> Result<(), AllocError>
+    ensures { OnOk result (text.new.items ≡ text.old.items ++ codes "script " ++ decimal script ++ codes " line " ++ decimal line ++ codes " syntax") }
+{
+    push_number(text, "script ", script)?;
+    push_syntax(text, " line ", line)
+}
+
+/// Adds a script's number, and what there is too many of.
+fn push_script_limit(text: &mut Vec<u8>, script: u64, limit: Limit) -> Result<(), AllocError>
+    ensures { OnOk result (text.new.items ≡ text.old.items ++ codes "script " ++ decimal script ++ codes " P2 " ++ spec.limit_word limit) }
+{
+    push_number(text, "script ", script)?;
+    text.extend_from_slice(b" P2 ")?;
+    text.extend_from_slice(limit_word(limit).as_bytes())
 }
 
 /// Adds what is told of a fault.
@@ -201,8 +223,8 @@ fn push_told(text: &mut Vec<u8>, fault: &FaultLine) -> Result<(), AllocError>
     match fault {
         FaultLine::Usage => text.extend_from_slice(b"usage"),
         FaultLine::Library(fault) => push_refused(text, *fault),
-        FaultLine::NetSyntax(line) => push_syntax(text, *line),
-        FaultLine::NetStatement(line, fault) => push_line(text, *line, *fault),
+        FaultLine::NetSyntax(line) => push_syntax(text, "netlist line ", *line),
+        FaultLine::NetStatement(line, fault) => push_line(text, "netlist line ", *line, *fault),
         FaultLine::Undriven(net) => push_name(text, "netlist H1 ", net),
         FaultLine::NoRoot => text.extend_from_slice(b"netlist H2"),
         FaultLine::IdleTick(tick) => push_number(text, "netlist H3 ", *tick),
@@ -210,6 +232,10 @@ fn push_told(text: &mut Vec<u8>, fault: &FaultLine) -> Result<(), AllocError>
         FaultLine::Unreached(event) => push_name(text, "netlist V1 ", event),
         FaultLine::NoReturn(event) => push_name(text, "netlist V2 ", event),
         FaultLine::Dead(events) => push_names(text, "netlist V3", events),
+        FaultLine::EditsSyntax(line) => push_syntax(text, "edits line ", *line),
+        FaultLine::EditsStatement(edit, fault) => push_line(text, "edits edit ", *edit, *fault),
+        FaultLine::ScriptSyntax(script, line) => push_script_syntax(text, *script, *line),
+        FaultLine::ScriptTooMany(script, limit) => push_script_limit(text, *script, *limit),
         FaultLine::ReadFault(name) => push_name(text, "read ", name),
         FaultLine::TooLong(name) => push_name(text, "too long ", name),
     }

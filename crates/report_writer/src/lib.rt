@@ -1,15 +1,22 @@
-//! The texts that the program writes: the rules of a system, the report of an analysis, and the line of a fault.
+//! The texts that the program writes: the rules of a system, the report of an analysis, the result of a ring, and the line of a
+//! fault.
+//!
+//! The promise: each text is that of its definition, byte for byte. The definitions stand in `specs/`, a file for each text.
 #![tactic(auto)]
 
+mod benches;
 mod fault_lines;
 mod faults;
+mod netlist_lines;
 mod pieces;
 mod reports;
 mod rules;
 #[cfg(test)]
 mod tests;
 
+pub use benches::bench_text;
 pub use fault_lines::fault_text;
-pub use faults::{FaultLine, Names};
+pub use faults::{FaultLine, Names, Source};
+pub use netlist_lines::netlist_line;
 pub use reports::report_text;
 pub use rules::rules_text;

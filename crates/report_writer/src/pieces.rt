@@ -1,27 +1,18 @@
 //! Pieces that several lines have.
-ghost use Rattle.std.specs.Prelude.{◌≡◌, ◌<◌, ◌*◌, ◌++◌, OnOk, decimal, length};
+ghost use Rattle.std.specs.Prelude.{◌≡◌, ◌<◌, ◌*◌, ◌++◌, OnOk, length};
 ghost use Rattle.netlist_model.specs.EventNames.{event_name};
 ghost use Rattle.report_writer.specs.Pieces as spec;
 
-use itoa::Buffer;
+use cyc_text::{push_decimal, push_signed};
 use netlist_model::Netlist;
 use rule_system::Rule;
 use std::alloc::AllocError;
-
-/// Adds a number in decimal.
-pub(crate) fn push_decimal(text: &mut Vec<u8>, number: u64) -> Result<(), AllocError>
-    ensures { OnOk result (text.new.items ≡ text.old.items ++ decimal number) }
-{
-    let mut buffer = Buffer::new();
-    text.extend_from_slice(buffer.format(number).as_bytes())
-}
 
 /// Adds a number that is scaled by the period's bottom.
 pub(crate) fn push_scaled(text: &mut Vec<u8>, number: i64, bottom: u64) -> Result<(), AllocError>
     ensures { OnOk result (text.new.items ≡ text.old.items ++ spec.scaled bottom number) }
 {
-    let mut buffer = Buffer::new();
-    text.extend_from_slice(buffer.format(number).as_bytes())?;
+    push_signed(text, number)?;
     text.extend_from_slice(b"/")?;
     push_decimal(text, bottom)
 }

@@ -5,17 +5,17 @@ ghost use Rattle.rule_system.specs.Rules.{delay_sum, offset_sum};
 ghost use Rattle.report_writer.specs.Report as spec;
 ghost use Rattle.report_writer.specs.Rightness.{IsRightFor};
 
-use crate::pieces::{push_decimal, push_event, push_rule, push_scaled};
+use crate::pieces::{push_event, push_rule, push_scaled};
 use analysis::Analysis;
 use cyc_num::Ratio;
-use cyc_text::Text;
+use cyc_text::{Text, push_decimal};
 use netlist_model::Netlist;
 use rule_system::laws::first_cycles_have_small_sums;
 use rule_system::{Rule, System};
 use std::alloc::{AllocError, Global};
 
 /// Adds the line of the period.
-fn push_period(text: &mut Vec<u8>, period: Ratio) -> Result<(), AllocError>
+pub(crate) fn push_period(text: &mut Vec<u8>, period: Ratio) -> Result<(), AllocError>
     ensures { OnOk result (text.new.items ≡ text.old.items ++ spec.period_line period) }
 {
     text.extend_from_slice(b"period ")?;
@@ -52,7 +52,7 @@ fn offset_of(rules: &[Rule], walk: &[u32]) -> u64
 }
 
 /// Adds the line of the cycle's length and sums.
-fn push_cycle(text: &mut Vec<u8>, rules: &[Rule], cycle: &[u32]) -> Result<(), AllocError>
+pub(crate) fn push_cycle(text: &mut Vec<u8>, rules: &[Rule], cycle: &[u32]) -> Result<(), AllocError>
     requires { AreSmallSums rules.now cycle.now }
     ensures { OnOk result (text.new.items ≡ text.old.items ++ spec.cycle_line rules.now cycle.now) }
 {

@@ -3,8 +3,8 @@ ghost use Rattle.std.specs.Prelude.{◌≡◌, ◌*◌, ◌++◌, All, IfOk, OnO
 ghost use Rattle.rule_system.specs.Bounds.{IsRule};
 ghost use Rattle.report_writer.specs.RulesText as spec;
 
-use crate::pieces::{push_decimal, push_rule};
-use cyc_text::Text;
+use crate::pieces::push_rule;
+use cyc_text::{Text, push_decimal};
 use netlist_model::Netlist;
 use rule_system::{Rule, System};
 use std::alloc::{AllocError, Global};

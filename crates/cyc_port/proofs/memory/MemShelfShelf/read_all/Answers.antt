@@ -14,9 +14,11 @@ returns c =
     record {
       answers = answers;
       after = after;
-      files = rw after (ap (λ (m : Files). Some m) (files_stay r shelf name));
-      counts = rw after (faults_stay r shelf name);
-      long_counts = rw after (long_stay r shelf name);
+      later = rw after (record {
+        files = ap (λ (m : Files). Some m) (files_stay r shelf name);
+        faults = faults_stay r shelf name;
+        long_reads = long_stay r shelf name;
+      });
       text = whole_file r shelf name answers;
       failed = rw after (failed_rose r shelf name);
       too_long = rw after (long_rose r shelf name answers);

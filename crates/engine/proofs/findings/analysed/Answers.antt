@@ -1,6 +1,0 @@
-use Rattle.engine.proofs.ForkLemmas.{forks_within}
-use Rattle.engine.proofs.findings.analysed.Goals as goal
-
-pub analyse-requires-clause-forks : goal.analyse-requires-clause-forks
-analyse-requires-clause-forks g c κs within =
-    rw (c.deref.ensures.value, c.in_ok-forks.ensures, c.in_ok-system.ensures) (forks_within c.args.netlist.now c.net_count.ensures.sound)

@@ -1,0 +1,70 @@
+-- What a command does, file by file, and what it may answer. For all commands.
+use Rattle.std.specs.Prelude.{◌≡◌, ◌≢◌, ◌≤◌, ◌<◌, ◌⊎◌, ℕ, List, length, Option, Some, None, Ok, Err}
+use Rattle.std.specs.FinMap as map
+use Rattle.cyc_port.specs.Counts.{Rose}
+use Rattle.cyc_port.specs.Files.{Files, IsFile, IsLongFile, file_limit}
+use Rattle.cyc_port.specs.Seen.{Seen}
+use Rattle.cell_arcs.specs.declared.cells.Cell.{Cell}
+use Rattle.cell_arcs.specs.declared.faults.LibraryFault.TheVariants as library
+use Rattle.netlist_model.specs.Circuit.{Circuit}
+use Rattle.netlist_model.specs.declared.faults.StatementFault.TheVariants as statement
+use Rattle.netlist_analysis.specs.Findings.{Finding, IsFinding}
+use Rattle.report_writer.specs.declared.faults.FaultLine.{FaultLine}
+use Rattle.report_writer.specs.declared.faults.FaultLine.TheVariants.{Usage, Library, NetStatement, EditsStatement, ReadFault, TooLong}
+use Rattle.engine.specs.Answers.{Answer, told}
+
+-- it writes a text; or refuses by a line; or opens a file and goes on by its bytes; or has a netlist analysed and goes on by what is found
+pub data Course : Type 0 where
+  Writes : List ℕ → Course
+  Refuses : FaultLine → Course
+  Opens : List ℕ → (List ℕ → Course) → Course
+  Analyses : List Cell → Circuit → (Finding → Course) → Course
+
+-- a line that refuses what a file says: it tells nothing of words or of reading, and no want of memory
+abbrev pub IsRefusal : FaultLine → Type 0
+IsRefusal Usage = ⊥
+IsRefusal (Library e) = e ≢ library.Memory
+IsRefusal (NetStatement line e) = e ≢ statement.Memory
+IsRefusal (EditsStatement edit e) = e ≢ statement.Memory
+IsRefusal (ReadFault name) = ⊥
+IsRefusal (TooLong name) = ⊥
+IsRefusal line = Unit {0}
+
+-- the answer tells the line, which refuses what a file says
+abbrev pub IsRefused : FaultLine → Answer → Type 0
+IsRefused line answer = IsRefusal line × (answer ≡ told line)
+
+-- what is due for what stands under a name: no file is there, or it is too long, or what its bytes are due
+abbrev pub IsDue : List ℕ → (List ℕ → Type 0) → Answer → Option (List ℕ) → Type 0
+IsDue name Rest answer None = answer ≡ told (ReadFault name)
+IsDue name Rest answer (Some bytes) =
+    ((length bytes ≤ file_limit) × Rest bytes) ⊎ ((file_limit < length bytes) × (answer ≡ told (TooLong name)))
+
+-- the verdict: the answer that told files come to
+abbrev pub IsVerdict : Files → Course → Answer → Type 0
+IsVerdict files (Writes text) answer = answer ≡ Ok text
+IsVerdict files (Refuses line) answer = IsRefused line answer
+IsVerdict files (Opens name next) answer = IsDue name (λ bytes. IsVerdict files (next bytes) answer) answer (map.get files name)
+IsVerdict files (Analyses library c next) answer = (finding : Finding) × IsFinding library c finding × IsVerdict files (next finding) answer
+
+-- a file word: a name that the course can open
+abbrev pub IsFileWord : Course → List ℕ → Type 0
+IsFileWord (Writes text) name = ⊥
+IsFileWord (Refuses line) name = ⊥
+IsFileWord (Opens word next) name = (name ≡ word) ⊎ ((bytes : List ℕ) × IsFileWord (next bytes) name)
+IsFileWord (Analyses library c next) name = (finding : Finding) × IsFileWord (next finding) name
+
+-- why a name has no bytes: its read failed and its count of faults rose, or its file is too long and its count of long reads rose
+abbrev pub IsUnread : Seen → Seen → List ℕ → Answer → Type 0
+IsUnread before now name answer =
+    ((answer ≡ told (ReadFault name)) × Rose (before.faults name) (now.faults name))
+    ⊎ ((answer ≡ told (TooLong name)) × Rose (before.long_reads name) (now.long_reads name) × IsLongFile before.files name)
+
+-- the answer comes along the course: each file before was read and accepted, and is the told one where files are told
+abbrev pub Comes : Seen → Seen → Course → Answer → Type 0
+Comes before now (Writes text) answer = answer ≡ Ok text
+Comes before now (Refuses line) answer = IsRefused line answer
+Comes before now (Opens name next) answer =
+    IsUnread before now name answer
+    ⊎ ((bytes : List ℕ) × IsFile before.files name bytes × Comes before now (next bytes) answer)
+Comes before now (Analyses library c next) answer = (finding : Finding) × IsFinding library c finding × Comes before now (next finding) answer

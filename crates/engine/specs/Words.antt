@@ -1,0 +1,22 @@
+-- The words behind a command's name.
+use Rattle.std.specs.Prelude.{◌==◌, ◌&&◌, ℕ, Bool, false, not, List, [], ◌∷◌, Option, Some, None, if◌then◌else◌, nat_le}
+use Rattle.std.specs.List.{list_all}
+use Rattle.cyc_text.specs.Number.{number_of}
+
+-- it has a first byte, which is no dash (45)
+abbrev pub is_begun_well : List ℕ → Bool
+is_begun_well [] = false
+is_begun_well (first ∷ rest) = not (first == 45)
+
+-- a word that names a file: not empty, not begun by a dash, with no control byte
+abbrev pub is_file_word : List ℕ → Bool
+is_file_word word = is_begun_well word && list_all (λ byte. nat_le 32 byte && not (byte == 127)) word
+
+-- the number where it is one of a ring's stages
+abbrev pub stages_within : Option ℕ → Option ℕ
+stages_within None = None
+stages_within (Some n) = if nat_le 3 n && nat_le n 4096 then Some n else None
+
+-- the stages of a ring that a word says
+abbrev pub stages_of : List ℕ → Option ℕ
+stages_of word = stages_within (number_of word)

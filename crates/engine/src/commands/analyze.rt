@@ -1,0 +1,69 @@
+//! `analyze LIBRARY NETLIST`: the report of a netlist's analysis.
+ghost use Rattle.std.specs.Prelude.{◌≡◌, map};
+ghost use Rattle.std.specs.String.{string_bytes};
+ghost use Rattle.cyc_port.specs.Seen.{Seen};
+ghost use Rattle.netlist_model.specs.Sound.{Fits};
+ghost use Rattle.engine.specs.Commands.{analyze_circuit, analyze_course, analyze_of};
+ghost use Rattle.engine.specs.Runs.{MayGive};
+ghost use Rattle.engine.specs.Steps.{MayEnd};
+
+use crate::faults::Fault;
+use crate::steps::{analyse, open_library, open_netlist};
+use crate::words::is_file;
+use cell_arcs::Library;
+use cyc_port::Shelf;
+use cyc_text::Text;
+use netlist_model::Netlist;
+use potentials::{ArrivalMaker, Plain};
+use report_writer::{FaultLine, report_text};
+use std::alloc::Global;
+use std::thread::Threads;
+
+/// The report of a netlist's analysis.
+fn report_of<R: Threads + Sync, M: ArrivalMaker>(
+    rt: &R,
+    alloc: Global,
+    library: &Library,
+    netlist: &Netlist,
+    maker: &M,
+) -> Result<Text, Fault>
+    requires { Fits library.now netlist.now.insts }
+    ensures { (seen : Seen) → MayEnd seen seen (analyze_circuit library.now netlist.now) result }
+{
+    let found = analyse(rt, alloc, library, netlist, maker)?;
+    let text = report_text(alloc, netlist, &found.system, &found.analysis)?;
+    Ok(text)
+}
+
+/// What the files come to.
+fn of_files<R: Threads + Sync, F: Shelf, M: ArrivalMaker>(
+    rt: &R,
+    alloc: Global,
+    shelf: &mut F,
+    library: &str,
+    netlist: &str,
+    maker: &M,
+) -> Result<Text, Fault>
+    ensures { MayEnd (F.seen shelf.old) (F.seen shelf.new) (analyze_course library.now netlist.now) result }
+{
+    let library = open_library(alloc, shelf, library)?;
+    let netlist = open_netlist(alloc, shelf, &library, netlist)?;
+    report_of(rt, alloc, &library, &netlist, maker)
+}
+
+/// What the words come to.
+pub(crate) fn of_words<R: Threads + Sync, F: Shelf>(
+    rt: &R,
+    alloc: Global,
+    shelf: &mut F,
+    words: &[String],
+) -> Result<Text, Fault>
+    ensures { MayGive (analyze_of (map string_bytes words.now)) (F.seen shelf.old) (F.seen shelf.new) result }
+{
+    match words {
+        [library, netlist] if is_file(library.as_str()) && is_file(netlist.as_str()) => {
+            of_files(rt, alloc, shelf, library.as_str(), netlist.as_str(), &Plain)
+        }
+        _ => Err(Fault::Line(FaultLine::Usage)),
+    }
+}

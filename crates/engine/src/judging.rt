@@ -1,0 +1,34 @@
+//! The words of a run: which command they ask for.
+ghost use Rattle.std.specs.Prelude.{map};
+ghost use Rattle.std.specs.String.{string_bytes};
+ghost use Rattle.engine.specs.Commands.{course_of};
+ghost use Rattle.engine.specs.Runs.{MayGive};
+
+use crate::commands::{analyze, apply, bench, expand};
+use crate::faults::Fault;
+use cyc_port::Shelf;
+use cyc_text::Text;
+use report_writer::FaultLine;
+use std::alloc::Global;
+use std::thread::Threads;
+
+/// What the words come to, over the files of the shelf.
+pub(crate) fn judge<R: Threads + Sync, F: Shelf>(
+    rt: &R,
+    alloc: Global,
+    words: &[String],
+    shelf: &mut F,
+) -> Result<Text, Fault>
+    ensures { MayGive (course_of (map string_bytes words.now)) (F.seen shelf.old) (F.seen shelf.new) result }
+{
+    let [word, rest @ ..] = words else {
+        return Err(Fault::Line(FaultLine::Usage));
+    };
+    match word.as_str() {
+        "expand" => expand::of_words(rt, alloc, shelf, rest),
+        "analyze" => analyze::of_words(rt, alloc, shelf, rest),
+        "apply" => apply::of_words(alloc, shelf, rest),
+        "bench" => bench::of_words(rt, alloc, rest),
+        _ => Err(Fault::Line(FaultLine::Usage)),
+    }
+}

@@ -1,0 +1,60 @@
+//! The words behind a command's name.
+ghost use Rattle.std.specs.Prelude.{◌≡◌, ◌≤◌, ◌==◌, ◌&&◌, IfSome, Some, not, nat_le};
+ghost use Rattle.std.specs.List.{list_all};
+ghost use Rattle.engine.specs.Words.{is_begun_well, is_file_word, stages_of, stages_within};
+
+use cyc_text::read_number;
+
+/// The fewest stages of a ring.
+const LEAST_STAGES: u64 = 3;
+
+/// The most stages of a ring.
+const MOST_STAGES: u64 = 4096;
+
+fn is_begun_well(word: &[u8]) -> bool
+    ensures { result ≡ is_begun_well word.now }
+{
+    match word {
+        [] => false,
+        [first, ..] => *first != b'-',
+    }
+}
+
+fn is_plain(word: &[u8]) -> bool
+    ensures { result ≡ list_all (λ byte. nat_le 32 byte && not (byte == 127)) word.now }
+{
+    word.iter().all(|byte| *byte >= 32 && *byte != 127)
+}
+
+/// Whether a word names a file.
+pub(crate) fn is_file(word: &str) -> bool
+    ensures { result ≡ is_file_word word.now }
+{
+    let bytes = word.as_bytes();
+    is_begun_well(bytes) && is_plain(bytes)
+}
+
+/// The number where it is one of a ring's stages.
+fn within(number: u64) -> Option<u32>
+    ensures stages { result ≡ stages_within (Some number) }
+    ensures least { IfSome result (λ n. 3 ≤ n) }
+    ensures most { IfSome result (λ n. n ≤ 4096) }
+{
+    if number >= LEAST_STAGES && number <= MOST_STAGES {
+        Some(number as u32)
+    } else {
+        None
+    }
+}
+
+/// The stages of a ring that a word says.
+pub(crate) fn read_stages(word: &str) -> Option<u32>
+    ensures stages { result ≡ stages_of word.now }
+    ensures least { IfSome result (λ n. 3 ≤ n) }
+    ensures most { IfSome result (λ n. n ≤ 4096) }
+{
+    match read_number(word.as_bytes()) {
+        None => None,
+        Some(number) => within(number),
+    }
+}

@@ -1,0 +1,2 @@
+mod ForkLemmas
+mod OneFinding
