@@ -10,7 +10,10 @@ use Rattle.netlist_model.specs.Circuit.{Circuit}
 use Rattle.netlist_model.specs.declared.faults.StatementFault.TheVariants as statement
 use Rattle.netlist_analysis.specs.Findings.{Finding, IsFinding}
 use Rattle.report_writer.specs.declared.faults.FaultLine.{FaultLine}
-use Rattle.report_writer.specs.declared.faults.FaultLine.TheVariants.{Usage, Library, NetStatement, EditsStatement, ReadFault, TooLong}
+use Rattle.report_writer.specs.declared.faults.FaultLine.TheVariants.{Library, NetStatement, EditsStatement, ReadFault, TooLong}
+use Rattle.report_writer.specs.declared.faults.Source.{Source}
+use Rattle.report_writer.specs.declared.faults.Source.TheVariants.{Words, Reading}
+use Rattle.report_writer.specs.Sources.{source_of}
 use Rattle.engine.specs.Answers.{Answer, told}
 
 -- it writes a text; or refuses by a line; or opens a file and goes on by its bytes; or has a netlist analysed and goes on by what is found
@@ -20,15 +23,22 @@ pub data Course : Type 0 where
   Opens : List ℕ → (List ℕ → Course) → Course
   Analyses : List Cell → Circuit → (Finding → Course) → Course
 
--- a line that refuses what a file says: it tells nothing of words or of reading, and no want of memory
+-- a file's content is told of
+abbrev pub OfContent : Source → Type 0
+OfContent Words = ⊥
+OfContent Reading = ⊥
+OfContent source = Unit {0}
+
+-- no want of memory is told
+abbrev pub TellsNoWant : FaultLine → Type 0
+TellsNoWant (Library e) = e ≢ library.Memory
+TellsNoWant (NetStatement line e) = e ≢ statement.Memory
+TellsNoWant (EditsStatement edit e) = e ≢ statement.Memory
+TellsNoWant line = Unit {0}
+
+-- a line that refuses what a file says
 abbrev pub IsRefusal : FaultLine → Type 0
-IsRefusal Usage = ⊥
-IsRefusal (Library e) = e ≢ library.Memory
-IsRefusal (NetStatement line e) = e ≢ statement.Memory
-IsRefusal (EditsStatement edit e) = e ≢ statement.Memory
-IsRefusal (ReadFault name) = ⊥
-IsRefusal (TooLong name) = ⊥
-IsRefusal line = Unit {0}
+IsRefusal line = OfContent (source_of line) × TellsNoWant line
 
 -- the answer tells the line, which refuses what a file says
 abbrev pub IsRefused : FaultLine → Answer → Type 0

@@ -1,18 +1,11 @@
-use crate::Outcome;
-use crate::tests::{
-    LIBRARY, file, is_written, netlist_bytes, push_written, run, wide_library, wide_ring,
-};
-use cyc_port::{MemShelf, MemSink, SinkStop};
+//! Rows of `analyze`.
+use crate::tests::{LIBRARY, made, run, shelf, writes};
 use std::alloc::{AllocError, Global};
 use std::test::Fail;
-use std::thread::Threads;
 
 /// A C-element, alone and with a reset that has no arc, behind the cells of the tables.
 const C_ELEMENTS: &str =
     "[cell.C2]\ninputs = [\"A\", \"B\"]\noutput = \"Z\"\narcs = [{ from = \"A\", sense = \"pos\", rise = 20, fall = 18 }, { from = \"B\", sense = \"pos\", rise = 20, fall = 18 }]\n[cell.C2R]\ninputs = [\"A\", \"B\", \"R\"]\noutput = \"Z\"\narcs = [{ from = \"A\", sense = \"pos\", rise = 20, fall = 18 }, { from = \"B\", sense = \"pos\", rise = 20, fall = 18 }]\n";
-
-/// Keys that a library's reader passes over.
-const FURTHER_KEYS: &str = "area = 12\nfunction = \"C\"\n";
 
 /// A netlist on each line, in the writing of the tables, and what is written for it: the report, or the line of a fault.
 const ANALYSES: &str = "\
@@ -71,49 +64,21 @@ net A => fault: netlist H1 A|
 net A|net B|net C => fault: netlist H1 A|
 net A|net B|net C|inst i1 INV A=A Z=B|inst i2 INV A=B Z=C => fault: netlist H1 A|
 $tick C- A+ 1 => fault: netlist H2|
+513:net n@|;513:inst i@ INV A=n< Z=n@|tick n<- n@+ 1|tick n<+ n@- 2|;root n0+|tick n0+ n0+ 1| => fault: netlist H3 1027|
+513:net n@|;513:inst i@ INV A=n< Z=n@|tick n<- n@+ 1|tick n<+ n@- 2|;root n0+|tick n0+ n0+ 1|tick n512- n0+ 0| => fault: netlist H3 1026|
 ";
 
-/// A shelf with a library and a netlist under the names of the tables.
-fn shelf(
-    alloc: Global,
-    library: &[u8],
-    netlist: &[u8],
-    fail: Vec<u64>,
-) -> Result<MemShelf, AllocError> {
-    let mut files = Vec::new(alloc);
-    files.push(file(alloc, "lib.toml", library)?)?;
-    files.push(file(alloc, "ring.net", netlist)?)?;
-    Ok(MemShelf::new(files, fail))
-}
-
-/// The cells of the tables and the C-elements, each with further keys.
+/// The cells of the tables and the C-elements, each with further keys, which a library's reader passes over.
 fn cells(alloc: Global) -> Result<String, AllocError> {
     let mut text = String::new(alloc);
     for line in LIBRARY.lines().chain(C_ELEMENTS.lines()) {
         text.push_str(line)?;
         text.push_str("\n")?;
         if line.starts_with("output") {
-            text.push_str(FURTHER_KEYS)?;
+            text.push_str("area = 12\nfunction = \"C\"\n")?;
         }
     }
     Ok(text)
-}
-
-/// What `analyze lib.toml ring.net` answers over these bytes.
-fn analyze<R: Threads + Sync>(
-    rt: &R,
-    alloc: Global,
-    library: &[u8],
-    netlist: &[u8],
-) -> Result<(Outcome, MemSink), AllocError> {
-    let mut shelf = shelf(alloc, library, netlist, Vec::new(alloc))?;
-    run(
-        rt,
-        alloc,
-        "analyze lib.toml ring.net",
-        &mut shelf,
-        Vec::new(alloc),
-    )
 }
 
 #[test]
@@ -122,188 +87,31 @@ fn netlists_and_their_reports(rt: HostRuntime) -> Result<(), Fail> {
     let library = cells(alloc)?;
     for row in ANALYSES.lines() {
         let (netlist, text) = row.split_once(" => ").ok_or("no arrow")?;
-        let netlist = netlist_bytes(alloc, netlist)?;
-        let mut wanted = Vec::new(alloc);
-        push_written(&mut wanted, text)?;
-        let (outcome, sink) = analyze(&rt, alloc, library.as_bytes(), &netlist)?;
-        assert!(rt; is_written(&outcome, &sink, &wanted), "{row}");
+        let netlist = made(alloc, netlist)?;
+        let wanted = made(alloc, text)?;
+        let files = (library.as_bytes(), netlist.as_slice(), b"".as_slice());
+        assert!(rt; writes(&rt, alloc, "analyze lib.toml a.net", files, &wanted)?, "{row}");
     }
-    Ok(())
-}
-
-/// The report of the ring.
-fn ring_report(alloc: Global) -> Result<Vec<u8>, AllocError> {
-    let row = ANALYSES.lines().next().unwrap_or("");
-    let text = row.strip_prefix("% => ").unwrap_or("");
-    let mut wanted = Vec::new(alloc);
-    push_written(&mut wanted, text)?;
-    Ok(wanted)
-}
-
-/// What the ring's words answer where these calls fail.
-fn failing<R: Threads + Sync>(
-    rt: &R,
-    alloc: Global,
-    fail: Vec<u64>,
-    stops: Vec<SinkStop>,
-) -> Result<(Outcome, MemSink), AllocError> {
-    let netlist = netlist_bytes(alloc, "%")?;
-    let mut shelf = shelf(alloc, LIBRARY.as_bytes(), &netlist, fail)?;
-    run(rt, alloc, "analyze lib.toml ring.net", &mut shelf, stops)
-}
-
-#[test]
-fn failing_calls_of_analyze(rt: HostRuntime) -> Result<(), Fail> {
-    let alloc = rt.alloc();
-    let (outcome, sink) = failing(&rt, alloc, vec![in alloc; 0]?, Vec::new(alloc))?;
-    assert!(rt; is_written(&outcome, &sink, b"fault: read lib.toml\n"));
-    let (outcome, sink) = failing(&rt, alloc, vec![in alloc; 1]?, Vec::new(alloc))?;
-    assert!(rt; is_written(&outcome, &sink, b"fault: read ring.net\n"));
-    let report = ring_report(alloc)?;
-    let (outcome, sink) = failing(&rt, alloc, vec![in alloc; 2]?, Vec::new(alloc))?;
-    assert!(rt; is_written(&outcome, &sink, &report));
-    for taken in 0..=report.len() {
-        let stops = vec![in alloc; SinkStop { call: 0, taken }]?;
-        let (outcome, sink) = failing(&rt, alloc, Vec::new(alloc), stops)?;
-        assert_eq!(rt; outcome.status, 7);
-        assert_eq!(rt; sink.bytes().len(), taken);
-        assert!(rt; report.starts_with(sink.bytes()));
-    }
-    let stops = vec![in alloc; SinkStop { call: 0, taken: 3 }]?;
-    let (outcome, sink) = failing(&rt, alloc, vec![in alloc; 1]?, stops)?;
-    assert_eq!(rt; outcome.status, 7);
-    assert_eq!(rt; sink.bytes(), b"fau".as_slice());
-    Ok(())
-}
-
-/// A ring of 513 inverters with two ticks an instance, and one more between whose events there is no rule.
-fn ticked_ring(alloc: Global) -> Result<String, AllocError> {
-    let mut text = String::new(alloc);
-    for i in 0..513u32 {
-        text.push_str(format!(in alloc; "net n{i}\n")?.as_str())?;
-    }
-    for i in 0..513u32 {
-        let from = if i == 0 { 512 } else { i - 1 };
-        text.push_str(format!(in alloc; "inst i{i} INV A=n{from} Z=n{i}\n")?.as_str())?;
-        text.push_str(format!(in alloc; "tick n{from}- n{i}+ 1\n")?.as_str())?;
-        text.push_str(format!(in alloc; "tick n{from}+ n{i}- 2\n")?.as_str())?;
-    }
-    text.push_str("root n0+\ntick n0+ n0+ 1\n")?;
-    Ok(text)
-}
-
-#[test]
-fn an_idle_tick_behind_many(rt: HostRuntime) -> Result<(), Fail> {
-    let alloc = rt.alloc();
-    let mut netlist = ticked_ring(alloc)?;
-    let (outcome, sink) = analyze(&rt, alloc, LIBRARY.as_bytes(), netlist.as_bytes())?;
-    assert!(rt; is_written(&outcome, &sink, b"fault: netlist H3 1027\n"));
-    netlist.push_str("tick n512- n0+ 0\n")?;
-    let (outcome, sink) = analyze(&rt, alloc, LIBRARY.as_bytes(), netlist.as_bytes())?;
-    assert!(rt; is_written(&outcome, &sink, b"fault: netlist H3 1026\n"));
-    Ok(())
-}
-
-/// Whether a text begins and ends so, and its status is 0.
-fn is_framed(outcome: &Outcome, sink: &MemSink, front: &str, back: &str) -> bool {
-    let text = sink.bytes();
-    outcome.status == 0 && text.starts_with(front.as_bytes()) && text.ends_with(back.as_bytes())
-}
-
-#[test]
-fn the_most_rules_to_analyze(rt: HostRuntime) -> Result<(), Fail> {
-    let alloc = rt.alloc();
-    let library = wide_library(alloc)?;
-    let mut netlist = wide_ring(alloc)?;
-    netlist.push_str("root m0+\ntick m2047+ m0+ 1\ntick m2047- m0+ 1\n")?;
-    netlist.push_str("tick m2047+ m0- 1\ntick m2047- m0- 1\n")?;
-    let (outcome, sink) = analyze(&rt, alloc, library.as_bytes(), netlist.as_bytes())?;
-    let front = "period 14336/1\ncycle 2048 14336 1\nstep 64 m0+ m1+ 7 0\n";
-    let back = "arrival m2047+ 14329/1\narrival m2047- 14327/1\nend\n";
-    assert!(rt; is_framed(&outcome, &sink, front, back));
     Ok(())
 }
 
 /// A ring of 33 inverters with 256 forks on 64 roots.
-fn forked_ring(alloc: Global) -> Result<String, AllocError> {
-    let mut text = String::new(alloc);
-    for i in 0..33u32 {
-        text.push_str(format!(in alloc; "net n{i}\n")?.as_str())?;
-    }
-    for i in 0..33u32 {
-        let to = if i == 32 { 0 } else { i + 1 };
-        text.push_str(format!(in alloc; "inst i{i} INV A=n{i} Z=n{to}\n")?.as_str())?;
-    }
-    text.push_str("tick n32- n0+ 1\nroot n0+\n")?;
-    for i in 0..256u32 {
-        let net = i % 32;
-        let edge = if i % 64 < 32 { "+" } else { "-" };
-        text.push_str(format!(in alloc; "fork f{i} n{net}{edge} n0+ n0- 0 0\n")?.as_str())?;
-    }
-    Ok(text)
-}
+const FORKED: &str = "33:net n@|;33:inst i@ INV A=n< Z=n@|;tick n32- n0+ 1|root n0+|;32:fork a@ n@+ n0+ n0- 0 0|fork b@ n@- n0+ n0- 0 0|fork c@ n@+ n0+ n0- 0 0|fork d@ n@- n0+ n0- 0 0|fork e@ n@+ n0+ n0- 0 0|fork f@ n@- n0+ n0- 0 0|fork g@ n@+ n0+ n0- 0 0|fork h@ n@- n0+ n0- 0 0|";
 
 #[test]
 fn the_most_forks_and_roots(rt: HostRuntime) -> Result<(), Fail> {
     let alloc = rt.alloc();
-    let mut netlist = forked_ring(alloc)?;
-    let (outcome, sink) = analyze(&rt, alloc, LIBRARY.as_bytes(), netlist.as_bytes())?;
-    let front = "period 726/1\ncycle 66 726 1\nstep 1 n0+ n1- 10 0\n";
-    let back = "fork f254 362/1 met\nfork f255 362/1 met\nend\n";
-    assert!(rt; is_framed(&outcome, &sink, front, back));
+    let library = LIBRARY.as_bytes();
+    let netlist = made(alloc, FORKED)?;
+    let mut forked = shelf(alloc, library, &netlist, b"", Vec::new(alloc))?;
+    let (_outcome, sink) = run(&rt, alloc, "analyze lib.toml a.net", &mut forked, Vec::new(alloc))?;
+    let front = b"period 726/1\ncycle 66 726 1\nstep 3 n0+ n1- 10 0\n";
+    assert!(rt; sink.bytes().starts_with(front));
+    assert!(rt; sink.bytes().ends_with(b"fork g31 362/1 met\nfork h31 362/1 met\nend\n"));
     // One fork more, on one root more: of the two limits that of the forks is told.
-    netlist.push_str("fork h n32+ n0+ n0- 0 0\n")?;
-    let (outcome, sink) = analyze(&rt, alloc, LIBRARY.as_bytes(), netlist.as_bytes())?;
-    assert!(rt; is_written(&outcome, &sink, b"fault: netlist line 325 S18 forks\n"));
-    Ok(())
-}
-
-#[test]
-fn each_file_is_judged_before_the_next_and_read_once(rt: HostRuntime) -> Result<(), Fail> {
-    let alloc = rt.alloc();
-    let netlist = netlist_bytes(alloc, "%")?;
-    let words = "analyze lib.toml ring.net";
-    // A refused library takes one call, an accepted one and its netlist two; the first call of the next run fails.
-    for (library, calls, status) in [("x = ", 1, 3), (LIBRARY, 2, 0)] {
-        let mut shelf = shelf(alloc, library.as_bytes(), &netlist, vec![in alloc; calls]?)?;
-        let (outcome, _sink) = run(&rt, alloc, words, &mut shelf, Vec::new(alloc))?;
-        assert_eq!(rt; outcome.status, status);
-        let (outcome, sink) = run(&rt, alloc, words, &mut shelf, Vec::new(alloc))?;
-        assert!(rt; is_written(&outcome, &sink, b"fault: read lib.toml\n"));
-    }
-    Ok(())
-}
-
-#[test]
-fn a_text_is_written_at_once(rt: HostRuntime) -> Result<(), Fail> {
-    let alloc = rt.alloc();
-    for line in [
-        "expand lib.toml ring.net",
-        "analyze lib.toml ring.net",
-        "analyze",
-    ] {
-        let netlist = netlist_bytes(alloc, "%")?;
-        let mut shelf = shelf(alloc, LIBRARY.as_bytes(), &netlist, Vec::new(alloc))?;
-        let stops = vec![in alloc; SinkStop { call: 1, taken: 0 }]?;
-        let (outcome, sink) = run(&rt, alloc, line, &mut shelf, stops)?;
-        assert!(rt; outcome.status == 0 || outcome.status == 2);
-        assert!(rt; sink.bytes().ends_with(b"\n"));
-    }
-    Ok(())
-}
-
-#[test]
-fn too_many_rules_to_analyze(rt: HostRuntime) -> Result<(), Fail> {
-    let alloc = rt.alloc();
-    let library = wide_library(alloc)?;
-    let mut netlist = wide_ring(alloc)?;
-    let (outcome, sink) = analyze(&rt, alloc, library.as_bytes(), netlist.as_bytes())?;
-    assert!(rt; is_written(&outcome, &sink, b"fault: netlist H2\n"));
-    netlist.push_str("net w\ninst wi INV A=m0 Z=w\nroot m0+\n")?;
-    let (outcome, sink) = analyze(&rt, alloc, library.as_bytes(), netlist.as_bytes())?;
-    assert!(rt; is_written(&outcome, &sink, b"fault: netlist H4 131074\n"));
-    netlist.push_str("tick w+ m0+ 1\n")?;
-    let (outcome, sink) = analyze(&rt, alloc, library.as_bytes(), netlist.as_bytes())?;
-    assert!(rt; is_written(&outcome, &sink, b"fault: netlist H3 1\n"));
+    let more = made(alloc, format!(in alloc; "{FORKED};fork x n32+ n0+ n0- 0 0|")?.as_str())?;
+    let files = (library, more.as_slice(), b"".as_slice());
+    let wanted = b"fault: netlist line 325 S18 forks\n".as_slice();
+    assert!(rt; writes(&rt, alloc, "analyze lib.toml a.net", files, wanted)?);
     Ok(())
 }

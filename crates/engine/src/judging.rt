@@ -1,6 +1,7 @@
 //! The words of a run: which command they ask for.
 ghost use Rattle.std.specs.Prelude.{map};
 ghost use Rattle.std.specs.String.{string_bytes};
+ghost use Rattle.cyc_port.specs.Seen.{Later};
 ghost use Rattle.engine.specs.Commands.{course_of};
 ghost use Rattle.engine.specs.Runs.{MayGive};
 
@@ -19,7 +20,8 @@ pub(crate) fn judge<R: Threads + Sync, F: Shelf>(
     words: &[String],
     shelf: &mut F,
 ) -> Result<Text, Fault>
-    ensures { MayGive (course_of (map string_bytes words.now)) (F.seen shelf.old) (F.seen shelf.new) result }
+    ensures may { MayGive (course_of (map string_bytes words.now)) (F.seen shelf.old) (F.seen shelf.new) result }
+    ensures later { Later (F.seen shelf.old) (F.seen shelf.new) }
 {
     let [word, rest @ ..] = words else {
         return Err(Fault::Line(FaultLine::Usage));

@@ -1,21 +1,28 @@
 //! The top call of the program: words and files in, text and status out.
+//!
+//! What a command does is a course: the files that it opens in turn, what it reads in each, and what it writes in the end
+//! (`specs/Courses`; each command's in `specs/Commands`). What a run may answer and leaves in the sink is defined for all courses
+//! at once (`specs/Runs`), and so are the laws (`laws`).
 #![tactic(auto)]
 
 #[cfg(test)]
 mod analyze_tests;
-mod command;
-mod content;
+mod commands;
+#[cfg(test)]
+mod edit_tests;
+#[cfg(test)]
+mod expand_tests;
 mod faults;
-mod findings;
+mod judging;
 pub mod laws;
 mod outcome;
-mod run;
+mod steps;
 #[cfg(test)]
 mod tests;
 mod top;
+mod words;
 mod writing;
 
-pub use command::Task;
 pub use faults::Fault;
 pub use outcome::{Order, Outcome};
 pub use top::{answer, cyclone};

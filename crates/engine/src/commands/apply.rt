@@ -1,7 +1,7 @@
 //! `apply LIBRARY NETLIST EDITS`: a netlist after a file of edits, as its canonical text.
 ghost use Rattle.std.specs.Prelude.{◌≡◌, map};
 ghost use Rattle.std.specs.String.{string_bytes};
-ghost use Rattle.cyc_port.specs.Seen.{Seen};
+ghost use Rattle.cyc_port.specs.Seen.{Later, Seen};
 ghost use Rattle.netlist_model.specs.Sound.{Fits};
 ghost use Rattle.engine.specs.Commands.{apply_course, apply_of, edits_made};
 ghost use Rattle.engine.specs.Runs.{MayGive};
@@ -47,7 +47,8 @@ fn of_files<F: Shelf>(
     netlist: &str,
     edits: &str,
 ) -> Result<Text, Fault>
-    ensures { MayEnd (F.seen shelf.old) (F.seen shelf.new) (apply_course library.now netlist.now edits.now) result }
+    ensures may { MayEnd (F.seen shelf.old) (F.seen shelf.new) (apply_course library.now netlist.now edits.now) result }
+    ensures later { Later (F.seen shelf.old) (F.seen shelf.new) }
 {
     let library = open_library(alloc, shelf, library)?;
     let netlist = open_netlist(alloc, shelf, &library, netlist)?;
@@ -61,7 +62,8 @@ pub(crate) fn of_words<F: Shelf>(
     shelf: &mut F,
     words: &[String],
 ) -> Result<Text, Fault>
-    ensures { MayGive (apply_of (map string_bytes words.now)) (F.seen shelf.old) (F.seen shelf.new) result }
+    ensures may { MayGive (apply_of (map string_bytes words.now)) (F.seen shelf.old) (F.seen shelf.new) result }
+    ensures later { Later (F.seen shelf.old) (F.seen shelf.new) }
 {
     match words {
         [library, netlist, edits]

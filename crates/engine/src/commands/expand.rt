@@ -1,7 +1,7 @@
 //! `expand LIBRARY NETLIST`: the rules of a netlist's system.
 ghost use Rattle.std.specs.Prelude.{◌≡◌, map};
 ghost use Rattle.std.specs.String.{string_bytes};
-ghost use Rattle.cyc_port.specs.Seen.{Seen};
+ghost use Rattle.cyc_port.specs.Seen.{Later, Seen};
 ghost use Rattle.netlist_model.specs.Sound.{Fits};
 ghost use Rattle.engine.specs.Commands.{expand_course, expand_of, rules_written};
 ghost use Rattle.engine.specs.Runs.{MayGive};
@@ -49,7 +49,8 @@ fn of_files<R: Threads + Sync, F: Shelf>(
     library: &str,
     netlist: &str,
 ) -> Result<Text, Fault>
-    ensures { MayEnd (F.seen shelf.old) (F.seen shelf.new) (expand_course library.now netlist.now) result }
+    ensures may { MayEnd (F.seen shelf.old) (F.seen shelf.new) (expand_course library.now netlist.now) result }
+    ensures later { Later (F.seen shelf.old) (F.seen shelf.new) }
 {
     let library = open_library(alloc, shelf, library)?;
     let netlist = open_netlist(alloc, shelf, &library, netlist)?;
@@ -63,7 +64,8 @@ pub(crate) fn of_words<R: Threads + Sync, F: Shelf>(
     shelf: &mut F,
     words: &[String],
 ) -> Result<Text, Fault>
-    ensures { MayGive (expand_of (map string_bytes words.now)) (F.seen shelf.old) (F.seen shelf.new) result }
+    ensures may { MayGive (expand_of (map string_bytes words.now)) (F.seen shelf.old) (F.seen shelf.new) result }
+    ensures later { Later (F.seen shelf.old) (F.seen shelf.new) }
 {
     match words {
         [library, netlist] if is_file(library.as_str()) && is_file(netlist.as_str()) => {

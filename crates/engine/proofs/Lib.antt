@@ -1,0 +1,5 @@
+mod Along
+mod Completing
+mod Ending
+mod Steps
+mod Verdicts

@@ -1,0 +1,12 @@
+use Rattle.std.proofs.Common.{map}
+use Rattle.std.specs.String.{string_bytes}
+use Rattle.engine.specs.Runs.{run_of}
+use Rattle.engine.proofs.Ending.{run_ends}
+use Rattle.engine.proofs.top.answer.Goals as goal
+
+pub returns-clause-run : goal.returns-clause-run
+returns-clause-run g c =
+    run_ends (run_of (map string_bytes c.args.words.now) (g.F.Shelf.seen c.args.shelf.now) (g.F.Shelf.seen c.judge-answer.new.shelf)
+    (g.K.Sink.seen c.args.sink.now) (g.K.Sink.seen c.write_answer.new.sink))
+    c.judge-answer.result c.write_answer.result.status c.judge-answer.ensures.may c.write_answer.ensures.known c.write_answer.ensures.whole
+    c.write_answer.ensures.cut c.write_answer.ensures.memory
