@@ -7,6 +7,7 @@ use crate::judging::judge;
 use crate::outcome::Outcome;
 use crate::writing::write_answer;
 use cyc_port::{Gate, Shelf, Sink};
+use potentials::Plain;
 use std::alloc::Global;
 use std::thread::Threads;
 
@@ -27,7 +28,7 @@ pub fn answer<R: Threads + Sync, F: Shelf, K: Sink, G: Gate + Sync>(
     ensures order { result.order ≡ [] }
     ensures files { (F.seen shelf.new).files ≡ (F.seen shelf.old).files }
 {
-    let answer = judge(rt, alloc, words, shelf);
+    let answer = judge(rt, alloc, words, shelf, &Plain);
     write_answer(alloc, &answer, sink)
 }
 

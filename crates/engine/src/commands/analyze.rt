@@ -14,7 +14,7 @@ use cell_arcs::Library;
 use cyc_port::Shelf;
 use cyc_text::Text;
 use netlist_model::Netlist;
-use potentials::{ArrivalMaker, Plain};
+use potentials::ArrivalMaker;
 use report_writer::{FaultLine, report_text};
 use std::alloc::Global;
 use std::thread::Threads;
@@ -40,31 +40,32 @@ fn of_files<R: Threads + Sync, F: Shelf, M: ArrivalMaker>(
     rt: &R,
     alloc: Global,
     shelf: &mut F,
-    library: &str,
-    netlist: &str,
+    library_name: &str,
+    netlist_name: &str,
     maker: &M,
 ) -> Result<Text, Fault>
-    ensures may { MayEnd (F.seen shelf.old) (F.seen shelf.new) (analyze_course library.now netlist.now) result }
+    ensures may { MayEnd (F.seen shelf.old) (F.seen shelf.new) (analyze_course library_name.now netlist_name.now) result }
     ensures later { Later (F.seen shelf.old) (F.seen shelf.new) }
 {
-    let library = open_library(alloc, shelf, library)?;
-    let netlist = open_netlist(alloc, shelf, &library, netlist)?;
+    let library = open_library(alloc, shelf, library_name)?;
+    let netlist = open_netlist(alloc, shelf, &library, netlist_name)?;
     report_of(rt, alloc, &library, &netlist, maker)
 }
 
 /// What the words come to.
-pub(crate) fn of_words<R: Threads + Sync, F: Shelf>(
+pub(crate) fn of_words<R: Threads + Sync, F: Shelf, M: ArrivalMaker>(
     rt: &R,
     alloc: Global,
     shelf: &mut F,
     words: &[String],
+    maker: &M,
 ) -> Result<Text, Fault>
     ensures may { MayGive (analyze_of (map string_bytes words.now)) (F.seen shelf.old) (F.seen shelf.new) result }
     ensures later { Later (F.seen shelf.old) (F.seen shelf.new) }
 {
     match words {
         [library, netlist] if is_file(library.as_str()) && is_file(netlist.as_str()) => {
-            of_files(rt, alloc, shelf, library.as_str(), netlist.as_str(), &Plain)
+            of_files(rt, alloc, shelf, library.as_str(), netlist.as_str(), maker)
         }
         _ => Err(Fault::Line(FaultLine::Usage)),
     }

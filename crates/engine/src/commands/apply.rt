@@ -43,16 +43,16 @@ fn text_after(
 fn of_files<F: Shelf>(
     alloc: Global,
     shelf: &mut F,
-    library: &str,
-    netlist: &str,
-    edits: &str,
+    library_name: &str,
+    netlist_name: &str,
+    edits_name: &str,
 ) -> Result<Text, Fault>
-    ensures may { MayEnd (F.seen shelf.old) (F.seen shelf.new) (apply_course library.now netlist.now edits.now) result }
+    ensures may { MayEnd (F.seen shelf.old) (F.seen shelf.new) (apply_course library_name.now netlist_name.now edits_name.now) result }
     ensures later { Later (F.seen shelf.old) (F.seen shelf.new) }
 {
-    let library = open_library(alloc, shelf, library)?;
-    let netlist = open_netlist(alloc, shelf, &library, netlist)?;
-    let edits = open_edits(alloc, shelf, edits)?;
+    let library = open_library(alloc, shelf, library_name)?;
+    let netlist = open_netlist(alloc, shelf, &library, netlist_name)?;
+    let edits = open_edits(alloc, shelf, edits_name)?;
     text_after(alloc, &library, &netlist, edits.list())
 }
 

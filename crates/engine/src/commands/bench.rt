@@ -13,7 +13,7 @@ use crate::words::read_stages;
 use cell_arcs::Library;
 use cyc_text::Text;
 use netlist_model::Netlist;
-use potentials::{ArrivalMaker, Plain};
+use potentials::ArrivalMaker;
 use report_writer::{FaultLine, bench_text};
 use ring_maker::{RingCells, muller_ring};
 use std::alloc::Global;
@@ -54,10 +54,11 @@ fn of_stages<R: Threads + Sync, M: ArrivalMaker>(
 }
 
 /// What the words come to.
-pub(crate) fn of_words<R: Threads + Sync>(
+pub(crate) fn of_words<R: Threads + Sync, M: ArrivalMaker>(
     rt: &R,
     alloc: Global,
     words: &[String],
+    maker: &M,
 ) -> Result<Text, Fault>
     ensures { (seen : Seen) → MayGive (bench_of (map string_bytes words.now)) seen seen result }
 {
@@ -65,7 +66,7 @@ pub(crate) fn of_words<R: Threads + Sync>(
         return Err(Fault::Line(FaultLine::Usage));
     };
     match read_stages(stages.as_str()) {
-        Some(stages) => of_stages(rt, alloc, stages, &Plain),
+        Some(stages) => of_stages(rt, alloc, stages, maker),
         None => Err(Fault::Line(FaultLine::Usage)),
     }
 }

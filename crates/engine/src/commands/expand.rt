@@ -46,14 +46,14 @@ fn of_files<R: Threads + Sync, F: Shelf>(
     rt: &R,
     alloc: Global,
     shelf: &mut F,
-    library: &str,
-    netlist: &str,
+    library_name: &str,
+    netlist_name: &str,
 ) -> Result<Text, Fault>
-    ensures may { MayEnd (F.seen shelf.old) (F.seen shelf.new) (expand_course library.now netlist.now) result }
+    ensures may { MayEnd (F.seen shelf.old) (F.seen shelf.new) (expand_course library_name.now netlist_name.now) result }
     ensures later { Later (F.seen shelf.old) (F.seen shelf.new) }
 {
-    let library = open_library(alloc, shelf, library)?;
-    let netlist = open_netlist(alloc, shelf, &library, netlist)?;
+    let library = open_library(alloc, shelf, library_name)?;
+    let netlist = open_netlist(alloc, shelf, &library, netlist_name)?;
     rules_of(rt, alloc, &library, &netlist)
 }
 
