@@ -1,2 +1,3 @@
 mod ForkLemmas
+pub mod Nothing
 mod OneFinding
