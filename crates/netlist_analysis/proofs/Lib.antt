@@ -1,3 +1,4 @@
 mod ForkLemmas
 pub mod Nothing
 mod OneFinding
+mod SystemFaults

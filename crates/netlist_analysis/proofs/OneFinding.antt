@@ -116,7 +116,7 @@ unfolding whole_of
 rootless library c whole none = by (undriven_fault c) refl
   where
     by : (o : Option WholeFault) → undriven_fault c ≡ o → ⊥
-    by (Some fault) h = let bad : Some fault ≡ None = rw (h, none) at whole in cc
+    by (Some fault) h = let bad : Some fault ≡ None = rw h at whole in cc
     by None h = let bad : Some NoRoot ≡ None = rw (h, none) at whole in cc
 
 -- a system is connected and live, or has a fault
