@@ -1,5 +1,5 @@
 //! The text of a ring's analysis.
-ghost use Rattle.std.specs.Prelude.{◌≡◌, ◌*◌, ◌++◌, IfOk, OnOk, length};
+ghost use Rattle.std.specs.Prelude.{◌≡◌, ◌*◌, ◌++◌, IfOk, OnOk, decimal, length};
 ghost use Rattle.report_writer.specs.BenchText as spec;
 ghost use Rattle.report_writer.specs.Rightness.{IsRightFor};
 
@@ -40,24 +40,30 @@ fn greatest_of(numbers: &[i64]) -> i64
     greatest
 }
 
-/// Adds the lines of the ring's stages and sizes.
-fn push_sizes(
-    text: &mut Vec<u8>,
-    stages: u32,
-    net: &Netlist,
-    system: &System,
-) -> Result<(), AllocError>
-    ensures { OnOk result
-        (text.new.items ≡ text.old.items ++ spec.stages_line stages ++ spec.sizes_line net.now system.now) }
+/// Adds the line of the ring's stages.
+fn push_stages(text: &mut Vec<u8>, stages: u32) -> Result<(), AllocError>
+    ensures { OnOk result (text.new.items ≡ text.old.items ++ spec.stages_line stages) }
 {
     text.extend_from_slice(b"bench ")?;
     push_decimal(text, u64::from(stages))?;
-    text.extend_from_slice(b"\nnets ")?;
-    push_decimal(text, net.net_count() as u64)?;
-    text.extend_from_slice(b" events ")?;
-    push_decimal(text, u64::from(system.events()))?;
-    text.extend_from_slice(b" rules ")?;
-    push_decimal(text, system.rules().len() as u64)?;
+    text.extend_from_slice(b"\n")
+}
+
+/// Adds a number behind its words.
+fn push_count(text: &mut Vec<u8>, words: &[u8], count: u64) -> Result<(), AllocError>
+    ensures { OnOk result (text.new.items ≡ text.old.items ++ words.now ++ decimal count) }
+{
+    text.extend_from_slice(words)?;
+    push_decimal(text, count)
+}
+
+/// Adds the line of the ring's sizes.
+fn push_sizes(text: &mut Vec<u8>, net: &Netlist, system: &System) -> Result<(), AllocError>
+    ensures { OnOk result (text.new.items ≡ text.old.items ++ spec.sizes_line net.now system.now) }
+{
+    push_count(text, b"nets ", net.net_count() as u64)?;
+    push_count(text, b" events ", u64::from(system.events()))?;
+    push_count(text, b" rules ", system.rules().len() as u64)?;
     text.extend_from_slice(b"\n")
 }
 
@@ -92,7 +98,8 @@ pub fn bench_text(
     first_cycles_have_small_sums();
     let rules = system.rules();
     let mut text = Vec::new(alloc);
-    push_sizes(&mut text, stages, net, system)?;
+    push_stages(&mut text, stages)?;
+    push_sizes(&mut text, net, system)?;
     push_period(&mut text, analysis.period)?;
     push_cycle(&mut text, rules, analysis.cycle.list())?;
     push_span(&mut text, analysis.arrivals.list(), analysis.period.bottom())?;
