@@ -1,9 +1,10 @@
 -- A run goes along a course.
-use Rattle.std.proofs.Common.{◌≡◌, ◌≤◌, ℕ, List, Option, Result, Ok, Err, subst, refl, sym, ◌∙◌, inl, inr, arith}
+use Rattle.std.proofs.Common.{◌≡◌, ◌≤◌, ℕ, List, Option, Result, Ok, Err, subst, refl, sym, ap, ◌∙◌, inl, inr, arith}
 use Rattle.std.specs.Prelude.{IfOk, IfErr, IsErrAnd}
 use Rattle.cyc_port.specs.Counts.{Rose}
 use Rattle.cyc_port.specs.Files.{Files, IsFile, IsLongFile}
 use Rattle.engine.specs.declared.faults.Fault.{Fault}
+use Rattle.engine.specs.declared.faults.Fault.TheVariants.{Memory}
 use Rattle.cyc_port.specs.Seen.{Seen, Later}
 use Rattle.engine.specs.Answers.{Answer}
 use Rattle.engine.specs.Courses.{Course, Writes, Refuses, Opens, Analyses, IsUnread, Comes}
@@ -86,6 +87,11 @@ pub quits : {A : Type 0} {b m n : Seen} {course : Course} {way : (A → Course) 
     → Reaches b m course (way cont) → Later m n → Stops m n way fault → IsErrAnd r (λ f. f ≡ fault) → MayEnd b n course r
 quits cont (Ok v) reached later stopped is = absurd is
 quits cont (Err f) reached later stopped is = rw is (gives_up cont reached later stopped)
+
+-- `?` ends a command for want of memory
+pub wants_end : (b n : Seen) (course : Course) (r : Answer) → IsErrAnd r (λ f. f ≡ Memory) → MayEnd b n course r
+wants_end b n course (Ok v) is = absurd is
+wants_end b n course (Err f) is = inl (ap Err is)
 
 -- the last step
 pub text_ends : {b n : Seen} {course : Course} {text : List ℕ} (answer : Answer) → Reaches b n course (Writes text) → IsTextOr text answer → MayEnd b n course answer

@@ -18,8 +18,6 @@ use Rattle.netlist_model.specs.declared.faults.EditFault.{EditFault}
 use Rattle.netlist_model.specs.declared.faults.EditFault.TheVariants as edit
 use Rattle.netlist_model.specs.declared.faults.StatementFault.{StatementFault}
 use Rattle.netlist_model.specs.declared.faults.StatementFault.TheVariants as statement
-use Rattle.netlist_model.specs.declared.faults.WholeFault.{WholeFault}
-use Rattle.netlist_model.specs.declared.faults.WholeFault.TheVariants as whole
 use Rattle.netlist_reader.specs.EditFiles.{edits_of}
 use Rattle.netlist_reader.specs.NetlistFiles.{netlist_of}
 use Rattle.netlist_reader.specs.declared.faults.EditsFault.{EditsFault}
@@ -27,11 +25,10 @@ use Rattle.netlist_reader.specs.declared.faults.EditsFault.TheVariants as edits
 use Rattle.netlist_reader.specs.declared.faults.NetFault.{NetFault}
 use Rattle.netlist_reader.specs.declared.faults.NetFault.TheVariants as net
 use Rattle.analysis.specs.declared.analyses.Analysis.{Analysis}
-use Rattle.netlist_analysis.specs.Findings.{Finding, IsFinding, IsNetlistFault}
+use Rattle.netlist_analysis.specs.Findings.{Finding, IsFinding}
 use Rattle.netlist_analysis.specs.declared.faults.NetlistFault.{NetlistFault}
-use Rattle.netlist_analysis.specs.declared.faults.NetlistFault.TheVariants.{Whole, Unreached, NoReturn, Dead, Memory}
 use Rattle.ring_maker.specs.Ring.{muller_ring, ring_library}
-use Rattle.report_writer.specs.NetlistLines.{netlist_line, whole_line}
+use Rattle.report_writer.specs.NetlistLines.{netlist_line}
 use Rattle.report_writer.specs.Sources.{source_of}
 use Rattle.report_writer.specs.declared.faults.FaultLine.{FaultLine}
 use Rattle.report_writer.specs.declared.faults.FaultLine.TheVariants as line
@@ -45,6 +42,7 @@ use Rattle.engine.specs.Words.{is_file_word, stages_of}
 use Rattle.engine.specs.Commands as commands
 use Rattle.engine.specs.Commands.{course_of, expand_of, analyze_of, apply_of, bench_of}
 use Rattle.engine.specs.Runs.{IsAnswer, IsOfCourse}
+use Rattle.engine.proofs.Accepting.{fault_is}
 use Rattle.engine.proofs.Verdicts.{HasFinding, OneFinding, IsComplete, verdict_exists, one_verdict}
 
 -- what files and edits say is sound, and no refusal tells a want of memory
@@ -67,19 +65,6 @@ accepted_is refusal next (Err e) refused goes = refused e refl
 if_is : (b : Bool) (x y : Course) → IsComplete x → IsComplete y → IsComplete (if b then x else y)
 if_is true x y first second = first
 if_is false x y first second = second
-
-whole_is : (c : Circuit) (fault : WholeFault) → IsRefusal (whole_line c fault)
-whole_is c (whole.Undriven position) = (tt, tt)
-whole_is c whole.NoRoot = (tt, tt)
-whole_is c (whole.IdleTick position) = (tt, tt)
-whole_is c (whole.TooManyRules count) = (tt, tt)
-
-fault_is : (library : List Cell) (c : Circuit) (fault : NetlistFault) → IsNetlistFault library c fault → IsRefusal (netlist_line c fault)
-fault_is library c (Whole fault) is = whole_is c fault
-fault_is library c (Unreached event) is = (tt, tt)
-fault_is library c (NoReturn event) is = (tt, tt)
-fault_is library c (Dead events) is = (tt, tt)
-fault_is library c Memory is = absurd is
 
 analysed_is : (library : List Cell) (c : Circuit) (next : Analysis → Course) → IsLibrary library → IsNetlist c → ((a : Analysis) → IsComplete (next a))
     → IsComplete (analysed library c next)

@@ -1,5 +1,5 @@
+mod Accepting
 mod Along
 mod Completing
 mod Ending
-mod Steps
 mod Verdicts

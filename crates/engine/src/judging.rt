@@ -2,7 +2,7 @@
 ghost use Rattle.std.specs.Prelude.{map};
 ghost use Rattle.std.specs.String.{string_bytes};
 ghost use Rattle.cyc_port.specs.Seen.{Later};
-ghost use Rattle.engine.specs.Commands.{course_of};
+ghost use Rattle.engine.specs.Commands.{course_named, course_of};
 ghost use Rattle.engine.specs.Runs.{MayGive};
 
 use crate::commands::{analyze, apply, bench, expand};
@@ -13,6 +13,31 @@ use potentials::ArrivalMaker;
 use report_writer::FaultLine;
 use std::alloc::Global;
 use std::thread::Threads;
+
+/// What the words behind a command's name come to.
+fn judge_named<R: Threads + Sync, F: Shelf, M: ArrivalMaker>(
+    rt: &R,
+    alloc: Global,
+    name: &str,
+    words: &[String],
+    shelf: &mut F,
+    maker: &M,
+) -> Result<Text, Fault>
+    ensures may { MayGive (course_named name.now (map string_bytes words.now)) (F.seen shelf.old) (F.seen shelf.new) result }
+    ensures later { Later (F.seen shelf.old) (F.seen shelf.new) }
+{
+    if name == "expand" {
+        expand::of_words(rt, alloc, shelf, words)
+    } else if name == "analyze" {
+        analyze::of_words(rt, alloc, shelf, words, maker)
+    } else if name == "apply" {
+        apply::of_words(alloc, shelf, words)
+    } else if name == "bench" {
+        bench::of_words(rt, alloc, words, maker)
+    } else {
+        Err(Fault::Line(FaultLine::Usage))
+    }
+}
 
 /// What the words come to, over the files of the shelf and by a maker of arrivals.
 pub(crate) fn judge<R: Threads + Sync, F: Shelf, M: ArrivalMaker>(
@@ -25,14 +50,8 @@ pub(crate) fn judge<R: Threads + Sync, F: Shelf, M: ArrivalMaker>(
     ensures may { MayGive (course_of (map string_bytes words.now)) (F.seen shelf.old) (F.seen shelf.new) result }
     ensures later { Later (F.seen shelf.old) (F.seen shelf.new) }
 {
-    let [word, rest @ ..] = words else {
-        return Err(Fault::Line(FaultLine::Usage));
-    };
-    match word.as_str() {
-        "expand" => expand::of_words(rt, alloc, shelf, rest),
-        "analyze" => analyze::of_words(rt, alloc, shelf, rest, maker),
-        "apply" => apply::of_words(alloc, shelf, rest),
-        "bench" => bench::of_words(rt, alloc, rest, maker),
-        _ => Err(Fault::Line(FaultLine::Usage)),
+    match words {
+        [] => Err(Fault::Line(FaultLine::Usage)),
+        [name, rest @ ..] => judge_named(rt, alloc, name.as_str(), rest, shelf, maker),
     }
 }

@@ -25,4 +25,5 @@ returns-clause-may g c =
     let library = c.in_ok-library.ensures.ok.to (apply_netlist c.args.netlist_name.now c.args.edits_name.now) in
     let netlist = goes_on (apply_edits c.args.edits_name.now c.in_ok-library.library) library c.in_ok-netlist.ensures.later c.in_ok-netlist.ensures.ok in
     let edits = goes_on (edits_made c.in_ok-library.library c.in_ok-netlist.netlist) netlist c.in_ok-edits.ensures.later c.in_ok-edits.ensures.ok in
-    ends_with _ edits (later_refl _) (c.text_after.ensures _)
+    ends_with _ edits (later_refl _)
+    (rw c.list.ensures at (c.text_after.ensures (g.F.Shelf.seen c.open_edits.new.shelf)))

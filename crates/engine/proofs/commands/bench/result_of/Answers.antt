@@ -1,8 +1,14 @@
+use Rattle.std.proofs.Common.{Ok, ap, inr}
 use Rattle.engine.specs.Commands.{bench_written}
-use Rattle.engine.proofs.Along.{later_refl, stays, quits, text_ends}
+use Rattle.engine.proofs.Along.{later_refl, stays, quits}
 use Rattle.engine.proofs.commands.bench.result_of.Goals as goal
 
 pub returns-in_err-found : goal.returns-in_err-found
 returns-in_err-found g c =
     λ seen. quits (bench_written c.args.stages c.args.library.now c.args.netlist.now) c.from_residual.result stays (later_refl seen)
     (c.in_err-found.ensures.err seen) c.from_residual.ensures.1
+
+pub returns : goal.returns
+returns g c =
+    λ seen. inr (((c.in_ok-found.ensures.ok seen).to (bench_written c.args.stages c.args.library.now c.args.netlist.now)).go seen (later_refl seen)
+    (Ok c.in_ok-text.text) (ap Ok (rw c.in_ok-found.ensures.system at c.in_ok-text.ensures)))
