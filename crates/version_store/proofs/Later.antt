@@ -1,11 +1,9 @@
 -- Halls after further calls.
-use Rattle.std.proofs.Common.{◌≡◌, ℕ, zero, suc, ◌+◌, ◌-◌, ◌<◌, ◌≤◌, List, [], ◌∷◌, ◌++◌, length, Option, Some, refl, sym, ap, ◌∙◌, arith, length-append}
+use Rattle.std.proofs.Common.{◌≡◌, ℕ, zero, suc, ◌+◌, ◌-◌, List, [], ◌∷◌, ◌++◌, length, Some, ap, ◌∙◌, arith, length-append}
 use Rattle.std.specs.Prelude.{slice_get}
 use Rattle.std.proofs.lemmas.List.Elements.{filter_map-append}
-use Rattle.version_store.specs.declared.entry.HallAct.{HallAct}
 use Rattle.version_store.specs.declared.state.HallItem.{HallItem}
-use Rattle.version_store.specs.declared.state.HallState.{HallState}
-use Rattle.version_store.specs.Halls.{origin_of, noted, item, rows_of, row_at}
+use Rattle.version_store.specs.Halls.{item, rows_of}
 use Rattle.version_store.specs.Turns.{KeepsOrigin, FindsRoom, KeepsRows}
 
 -- what stands at a number of a list stands there in a longer one

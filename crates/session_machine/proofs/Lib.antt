@@ -1,0 +1,6 @@
+mod Calls
+mod Law
+mod Owns
+mod Puts
+mod Runs
+mod Scripts

@@ -1,0 +1,4 @@
+pub mod Orders
+pub mod Machine
+pub mod Alone
+pub mod Laws
