@@ -26,7 +26,7 @@ module _ {C R S V : Type 0} (machine : Machine C R S V) (places : List (Place V)
       ap given_at (no_places s places no_times) ∙ ap (λ l. given_by machine.shared (own machine places s l)) (sym none)
 
 pub all_alone : (C R S V : Type 0) → OneOrder C R S V
-all_alone C R S V machine scripts places quiet order agree = one_order machine quiet scripts places order (λ s.
+all_alone C R S V machine quiet scripts places order agree = one_order machine quiet scripts places order (λ s.
     dite (dec_le 1 s)
     (λ from. dite (dec_le s (length scripts)) (λ upto. agree s from upto) (λ above. agrees_outside machine places scripts s (order s) (none_outside 1 s scripts (omega arith))))
     (λ below. agrees_outside machine places scripts s (order s) (none_before 1 s scripts (omega arith))))

@@ -4,3 +4,6 @@ mod Owns
 mod Puts
 mod Runs
 mod Scripts
+mod Refusals
+mod Worked
+mod Sound

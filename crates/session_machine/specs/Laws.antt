@@ -25,9 +25,12 @@ LooksNoFurther C R S V = (machine : Machine C R S V) (places more : List (Place 
 
 -- the machine's replies along an order are those of all sessions alone, and at each place just that is published which the
 -- machine publishes there, where at the places of each session just that is published which it publishes alone
-abbrev pub OneOrder : Type 0 → Type 0 → Type 0 → Type 0 → Type 0
-OneOrder C R S V = (machine : Machine C R S V) (scripts : List (List C)) (places : List (Place V)) → IsQuiet machine
-    → IsOrder machine.shared scripts (order_of places)
+abbrev pub IsOneOrder : {C R S V : Type 0} → Machine C R S V → Type 0
+IsOneOrder {C} {R} {S} {V} machine = (scripts : List (List C)) (places : List (Place V)) → IsOrder machine.shared scripts (order_of places)
     → ((session : ℕ) → 1 ≤ session → session ≤ length scripts → Agrees machine places scripts session)
     → (replies machine scripts (order_of places) ≡ all_own machine places 1 scripts)
     × (published machine scripts (order_of places) ≡ given_at places)
+
+-- so it is for each machine whose local calls publish nothing
+abbrev pub OneOrder : Type 0 → Type 0 → Type 0 → Type 0 → Type 0
+OneOrder C R S V = (machine : Machine C R S V) → IsQuiet machine → IsOneOrder machine

@@ -1,6 +1,7 @@
 -- A machine that takes the calls of sessions one at a time.
 -- C: calls. R: replies. S: what a session has, as a pin and a draft. V: versions.
 use Rattle.std.specs.Prelude.{ℕ, ◌+◌, Bool, ◌==◌, List, [], ◌∷◌, ◌++◌, map, filter, Option}
+use Rattle.std.specs.List.{flat_map}
 use Rattle.std.specs.Option.{option_to_list}
 use Rattle.session_machine.specs.Orders.{put, spread}
 
@@ -44,6 +45,10 @@ module _ {C R V : Type 0} where
   -- the calls of events
   abbrev pub calls_in : List (Event C R V) → List C
   calls_in events = map (λ e. e.call) events
+
+  -- the versions that events published, in order
+  abbrev pub versions_in : List (Event C R V) → List V
+  versions_in events = flat_map (λ e. option_to_list e.gives) events
 
   -- what each shared call published, if anything
   abbrev pub given_by : (C → Bool) → List (Event C R V) → List (Option V)

@@ -1,6 +1,7 @@
 //! What holds of every machine of sessions.
 //! A law is the contract of a function that does nothing: a call makes it known where it stands.
 ghost use Rattle.session_machine.specs.Laws.{MakesEachCall, AloneMakesEachCall, LooksNoFurther, OneOrder};
+ghost use Rattle.session_machine.specs.Sessions.{RefusalsChangeNothing, LocalsPublishNothing, SessionsAreOneOrder, VersionsAreMade};
 
 /// Along an order each session makes the calls of its script, each once and in their order.
 pub fn each_call_is_made<C, R, S, V>()
@@ -22,4 +23,25 @@ pub fn alone_looks_no_further<C, R, S, V>()
 /// there. Premise: a local call publishes nothing.
 pub fn alone_is_the_machine<C, R, S, V>()
     ensures { OneOrder C R S V }
+{}
+
+/// A call that is refused leaves its session as it was, and publishes nothing.
+pub fn refusals_change_nothing()
+    ensures { RefusalsChangeNothing }
+{}
+
+/// A local call of the sessions publishes nothing.
+pub fn local_calls_publish_nothing()
+    ensures { LocalsPublishNothing }
+{}
+
+/// So where each session publishes at its places what it publishes alone, the replies of all sessions alone are the machine's along
+/// the order of those places, and just there a version is published where the machine publishes one, with the same edits.
+pub fn sessions_are_one_order()
+    ensures { SessionsAreOneOrder }
+{}
+
+/// Whatever calls are made, no edit of a published version is refused: each version is made of the one before it.
+pub fn versions_are_made()
+    ensures { VersionsAreMade }
 {}

@@ -1,0 +1,18 @@
+-- The worked scripts, computed.
+use Rattle.std.proofs.Common.{refl}
+use Rattle.cyc_text.specs.Name.{is_name}
+use Rattle.netlist_model.specs.Edits.{edited_from}
+use Rattle.netlist_model.specs.Statements.{add_net}
+use Rattle.session_machine.specs.WorkedScripts.{TakeTurns, QueriesArePinned, RebaseIsRefused}
+
+pub turns_taken : TakeTurns
+unfolding is_name edited_from add_net
+turns_taken = (refl, refl, refl)
+
+pub queries_pinned : QueriesArePinned
+unfolding is_name edited_from add_net
+queries_pinned = refl
+
+pub rebase_refused : RebaseIsRefused
+unfolding is_name edited_from add_net
+rebase_refused = refl
