@@ -1,5 +1,5 @@
 -- Lines that say calls are read, and the first that does not refuses the script.
-use Rattle.std.proofs.Common.{◌≡◌, ◌≢◌, ◌≤◌, ◌<◌, ℕ, suc, ◌+◌, ◌&&◌, Bool, true, false, cond, List, [], ◌∷◌, ◌++◌, length, map, Option, Some, None, Result, Ok, Err, refl, sym, ap, subst, ◌∙◌, arith, if◌then◌else◌, nat_le, length-append, append_assoc}
+use Rattle.std.proofs.Common.{◌≡◌, ◌≢◌, ◌≤◌, ◌<◌, ℕ, suc, ◌+◌, ◌&&◌, Bool, true, false, cond, List, [], ◌∷◌, ◌++◌, length, map, Option, Some, None, Ok, Err, refl, sym, ap, subst, ◌∙◌, arith, if◌then◌else◌, nat_le, length-append, append_assoc}
 use Rattle.std.specs.Prelude.{◌==◌, count_by, filter}
 use Rattle.std.specs.Str.Lines.{lines}
 use Rattle.std.proofs.lemmas.Bool.Decides.{nat_tests}
@@ -8,7 +8,7 @@ use Rattle.cyc_text.specs.Words.{words_of}
 use Rattle.cell_arcs.specs.Steps.{◌>>=◌}
 use Rattle.cyc_text.specs.declared.limits.Limit.TheVariants.{Cells, Inputs, Nets, Consts, Forks, Roots, Lines, Reports}
 use Rattle.session_script.specs.Calls.{is_report}
-use Rattle.session_script.specs.FaultyLines.{has_word, SayCalls, IsFault, IsFaultyLine, SaidCallsAreRead, FaultyLineRefuses}
+use Rattle.session_script.specs.FaultyLines.{has_word, SayCalls, IsFault, SaidCallsAreRead, FaultyLineRefuses}
 use Rattle.session_script.specs.ScriptLines.{call_of}
 use Rattle.session_script.specs.Scripts.{with_call, with_line, after_words, after_lines}
 use Rattle.session_script.specs.declared.calls.Call.{Call}
