@@ -12,7 +12,7 @@ use Rattle.session_script.specs.Calls.{is_shared}
 use Rattle.session_script.specs.declared.calls.Call.{Call}
 use Rattle.session_script.specs.declared.calls.Call.TheVariants as call
 use Rattle.session_machine.specs.Versions.{after, netlists, head_of, newest}
-use Rattle.session_machine.specs.Table.{Readings, Holding, Act, replies, refuses, unless, pinned, pinned_at, edit_added, rebased, published, publish, is_at, version_limit, blocked, in_turn, local, act}
+use Rattle.session_machine.specs.Table.{Readings, Holding, Act, only_replies, refuses, unless_refused, pinned, pinned_at, edit_added, rebased, new_version, publish, is_at, version_limit, blocked, in_turn, local, act}
 use Rattle.session_machine.specs.Sessions.{sessions, RefusalsChangeNothing, LocalsPublishNothing, SessionsAreOneOrder}
 use Rattle.session_machine.specs.declared.replies.Reply.TheVariants.{Pinned, Refused}
 use Rattle.session_machine.specs.declared.replies.Refusal.{Refusal}
@@ -24,7 +24,7 @@ abbrev IsSame : Holding → Act → Type 0
 IsSame has m = (m.has ≡ has) × (m.gives ≡ None)
 
 module _ (has : Holding) (refusal : Refusal) where
-  unless_same : (fault : Option Refusal) (m : Act) → (m.reply ≡ Refused refusal → IsSame has m) → (unless fault has m).reply ≡ Refused refusal → IsSame has (unless fault has m)
+  unless_same : (fault : Option Refusal) (m : Act) → (m.reply ≡ Refused refusal → IsSame has m) → (unless_refused fault has m).reply ≡ Refused refusal → IsSame has (unless_refused fault has m)
   unless_same None m same h = same h
   unless_same (Some f) m same h = (refl, refl)
 
@@ -38,16 +38,16 @@ module _ (has : Holding) (refusal : Refusal) where
   rebased_same head (Err edits.Memory) h = (refl, refl)
 
   publish_same : (head : ℕ) → (publish head has).reply ≡ Refused refusal → IsSame has (publish head has)
-  publish_same head = elim (is_at head has.pin) as (λ b. let m = cond b (cond (nat_lt (head + 1) version_limit) (published has (head + 1)) (refuses has Full)) (refuses has (Stale head)) in m.reply ≡ Refused refusal → IsSame has m) [
-    | true ↦ elim (nat_lt (head + 1) version_limit) as (λ b. let m = cond b (published has (head + 1)) (refuses has Full) in m.reply ≡ Refused refusal → IsSame has m) [
+  publish_same head = elim (is_at head has.pin) as (λ b. let m = cond b (cond (nat_lt (head + 1) version_limit) (new_version has (head + 1)) (refuses has Full)) (refuses has (Stale head)) in m.reply ≡ Refused refusal → IsSame has m) [
+    | true ↦ elim (nat_lt (head + 1) version_limit) as (λ b. let m = cond b (new_version has (head + 1)) (refuses has Full) in m.reply ≡ Refused refusal → IsSame has m) [
       | true ↦ λ h. absurd (cc)
       | false ↦ λ h. (refl, refl)
     ]
     | false ↦ λ h. (refl, refl)
   ]
 
-  number_same : (nets : List Circuit) (n : ℕ) → let m = cond (nat_lt (head_of nets) n) (refuses has (NoVersion (head_of nets))) (replies (pinned_at has n) (Pinned n)) in m.reply ≡ Refused refusal → IsSame has m
-  number_same nets n = elim (nat_lt (head_of nets) n) as (λ b. let m = cond b (refuses has (NoVersion (head_of nets))) (replies (pinned_at has n) (Pinned n)) in m.reply ≡ Refused refusal → IsSame has m) [
+  number_same : (nets : List Circuit) (n : ℕ) → let m = cond (nat_lt (head_of nets) n) (refuses has (NoVersion (head_of nets))) (only_replies (pinned_at has n) (Pinned n)) in m.reply ≡ Refused refusal → IsSame has m
+  number_same nets n = elim (nat_lt (head_of nets) n) as (λ b. let m = cond b (refuses has (NoVersion (head_of nets))) (only_replies (pinned_at has n) (Pinned n)) in m.reply ≡ Refused refusal → IsSame has m) [
     | true ↦ λ h. (refl, refl)
     | false ↦ λ h. absurd (cc)
   ]
@@ -88,7 +88,7 @@ module _ (has : Holding) (refusal : Refusal) where
         let done = local library readings net has c in
         let turn = in_turn library readings nets has c in
         let stop = blocked library readings net has.draft c in
-        elim (is_shared c) as (λ b. let m = cond b (unless stop has turn) (replies done.0 done.1) in m.reply ≡ Refused refusal → IsSame has m) [
+        elim (is_shared c) as (λ b. let m = cond b (unless_refused stop has turn) (only_replies done.0 done.1) in m.reply ≡ Refused refusal → IsSame has m) [
           | true ↦ unless_same stop turn (turn_same nets c)
           | false ↦ λ h. (local_same net c h, refl)
         ]
@@ -101,7 +101,7 @@ locals_publish_nothing readings base versions has c is =
     let nets = netlists base.library base.netlist versions in
     let net = pinned nets has in
     let done = local base.library readings net has c in
-    ap (λ b. (cond b (unless (blocked base.library readings net has.draft c) has (in_turn base.library readings nets has c)) (replies done.0 done.1)).gives) is
+    ap (λ b. (cond b (unless_refused (blocked base.library readings net has.draft c) has (in_turn base.library readings nets has c)) (only_replies done.0 done.1)).gives) is
 
 pub sessions_are_one_order : SessionsAreOneOrder
 sessions_are_one_order readings base = all_alone _ _ _ _ (sessions readings base) (locals_publish_nothing readings base)

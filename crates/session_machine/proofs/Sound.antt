@@ -18,8 +18,8 @@ use Rattle.session_script.specs.declared.calls.Call.TheVariants as call
 use Rattle.session_machine.specs.Orders.{put}
 use Rattle.session_machine.specs.Machine.{run, versions_in}
 use Rattle.session_machine.specs.Versions.{Version, or_before, after, netlists, head_of, newest, AreMade}
-use Rattle.session_machine.specs.Table.{Readings, Holding, Act, fresh, replies, refuses, unless, pinned, pinned_at, open_fault, edit_added, rebased, published, publish, is_at, version_limit, blocked, in_turn, local, act}
-use Rattle.session_machine.specs.Sessions.{Base, sessions, VersionsAreMade}
+use Rattle.session_machine.specs.Table.{Readings, Holding, Act, fresh, only_replies, refuses, unless_refused, pinned, pinned_at, open_fault, edit_added, rebased, new_version, publish, is_at, version_limit, blocked, in_turn, local, act}
+use Rattle.session_machine.specs.Sessions.{Base, sessions, VersionsAreMade, MadeVersionsHaveNetlists, NetlistsStay}
 use Rattle.session_machine.specs.declared.replies.Reply.TheVariants.{Pinned}
 use Rattle.session_machine.specs.declared.replies.Refusal.{Refusal}
 use Rattle.session_machine.specs.declared.replies.Refusal.TheVariants.{NoVersion, Stale, Full}
@@ -131,16 +131,16 @@ module _ (library : List Cell) where
     }
 
     module _ (has : Holding) (s : Sound (c ∷ ds) has) where
-      unless_goes : (fault : Option Refusal) (m : Act) → (fault ≡ None → Goes m) → Goes (unless fault has m)
+      unless_goes : (fault : Option Refusal) (m : Act) → (fault ≡ None → Goes m) → Goes (unless_refused fault has m)
       unless_goes None m free = free refl
       unless_goes (Some r) m free = stays has (refuses has r) refl s
 
       -- a pin of a version that there is, with no draft
-      pinned_goes : (n : ℕ) → open_fault has.draft ≡ None → n < length (c ∷ ds) → Goes (replies (pinned_at has n) (Pinned n))
-      pinned_goes n free within = stays has (replies (pinned_at has n) (Pinned n)) refl (subst (λ (draft : List Edit). IsOpen (c ∷ ds) draft n) (closed has.draft free) (fresh_pin (c ∷ ds) n within))
+      pinned_goes : (n : ℕ) → open_fault has.draft ≡ None → n < length (c ∷ ds) → Goes (only_replies (pinned_at has n) (Pinned n))
+      pinned_goes n free within = stays has (only_replies (pinned_at has n) (Pinned n)) refl (subst (λ (draft : List Edit). IsOpen (c ∷ ds) draft n) (closed has.draft free) (fresh_pin (c ∷ ds) n within))
 
-      number_goes : (n : ℕ) → open_fault has.draft ≡ None → Goes (cond (nat_lt (head_of (c ∷ ds)) n) (refuses has (NoVersion (head_of (c ∷ ds)))) (replies (pinned_at has n) (Pinned n)))
-      number_goes n free = elim (nat_lt (head_of (c ∷ ds)) n) as (λ b. nat_lt (head_of (c ∷ ds)) n ≡ b → Goes (cond b (refuses has (NoVersion (head_of (c ∷ ds)))) (replies (pinned_at has n) (Pinned n)))) [
+      number_goes : (n : ℕ) → open_fault has.draft ≡ None → Goes (cond (nat_lt (head_of (c ∷ ds)) n) (refuses has (NoVersion (head_of (c ∷ ds)))) (only_replies (pinned_at has n) (Pinned n)))
+      number_goes n free = elim (nat_lt (head_of (c ∷ ds)) n) as (λ b. nat_lt (head_of (c ∷ ds)) n ≡ b → Goes (cond b (refuses has (NoVersion (head_of (c ∷ ds)))) (only_replies (pinned_at has n) (Pinned n)))) [
         | true ↦ λ is. stays has (refuses has (NoVersion (head_of (c ∷ ds)))) refl s
         | false ↦ λ is. let low : n ≤ head_of (c ∷ ds) = grind (arith, nat_tests) in let h = head_is c ds in pinned_goes n free (omega arith)
       ] refl
@@ -158,7 +158,7 @@ module _ (library : List Cell) where
       rebase_goes (Err (edits.At n fault)) is = stays has (rebased has (head_of (c ∷ ds)) (Err (edits.At n fault))) refl s
       rebase_goes (Err edits.Memory) is = stays has (rebased has (head_of (c ∷ ds)) (Err edits.Memory)) refl s
 
-      published_goes : (head : ℕ) → head ≡ length ds → is_at head has.pin ≡ true → Goes (published has (head + 1))
+      published_goes : (head : ℕ) → head ≡ length ds → is_at head has.pin ≡ true → Goes (new_version has (head + 1))
       published_goes head h at =
           let o : IsOpen (c ∷ ds) has.draft head = subst (SoundPin (c ∷ ds) has.draft) (at_is head has.pin at) s in
           let n : length (c ∷ ds) ≡ head + 1 = omega arith in
@@ -174,8 +174,8 @@ module _ (library : List Cell) where
           }
 
       publish_goes : (head : ℕ) → head ≡ length ds → Goes (publish head has)
-      publish_goes head h = elim (is_at head has.pin) as (λ b. is_at head has.pin ≡ b → Goes (cond b (cond (nat_lt (head + 1) version_limit) (published has (head + 1)) (refuses has Full)) (refuses has (Stale head)))) [
-        | true ↦ λ at. elim (nat_lt (head + 1) version_limit) as (λ b. Goes (cond b (published has (head + 1)) (refuses has Full))) [
+      publish_goes head h = elim (is_at head has.pin) as (λ b. is_at head has.pin ≡ b → Goes (cond b (cond (nat_lt (head + 1) version_limit) (new_version has (head + 1)) (refuses has Full)) (refuses has (Stale head)))) [
+        | true ↦ λ at. elim (nat_lt (head + 1) version_limit) as (λ b. Goes (cond b (new_version has (head + 1)) (refuses has Full))) [
           | true ↦ published_goes head h at
           | false ↦ stays has (refuses has Full) refl s
         ]
@@ -183,12 +183,12 @@ module _ (library : List Cell) where
       ] refl
 
       added_goes : (e : Edit) (k : Circuit) → pinned (c ∷ ds) has ≡ Some k → (r : Result Circuit StatementFault) → made library (after library k has.draft) e ≡ r
-          → Goes (replies (edit_added has e r).0 (edit_added has e r).1)
-      added_goes e k at (Ok d) is = stays has (replies (edit_added has e (Ok d)).0 (edit_added has e (Ok d)).1) refl (added_pin (c ∷ ds) has.draft has.pin e k d s at is)
-      added_goes e k at (Err f) is = stays has (replies (edit_added has e (Err f)).0 (edit_added has e (Err f)).1) refl s
+          → Goes (only_replies (edit_added has e r).0 (edit_added has e r).1)
+      added_goes e k at (Ok d) is = stays has (only_replies (edit_added has e (Ok d)).0 (edit_added has e (Ok d)).1) refl (added_pin (c ∷ ds) has.draft has.pin e k d s at is)
+      added_goes e k at (Err f) is = stays has (only_replies (edit_added has e (Err f)).0 (edit_added has e (Err f)).1) refl s
 
-      make_goes : (e : Edit) (net : Option Circuit) → pinned (c ∷ ds) has ≡ net → let done = local library readings net has (call.Make e) in Goes (replies done.0 done.1)
-      make_goes e None at = let done = local library readings None has (call.Make e) in stays has (replies done.0 done.1) refl s
+      make_goes : (e : Edit) (net : Option Circuit) → pinned (c ∷ ds) has ≡ net → let done = local library readings net has (call.Make e) in Goes (only_replies done.0 done.1)
+      make_goes e None at = let done = local library readings None has (call.Make e) in stays has (only_replies done.0 done.1) refl s
       make_goes e (Some k) at = added_goes e k at (made library (after library k has.draft) e) refl
 
       goes : (x : Call) → Goes (act library readings (c ∷ ds) has x)
@@ -206,28 +206,42 @@ module _ (library : List Cell) where
       goes call.Report = stays has (act library readings (c ∷ ds) has call.Report) refl s
 
 module _ (readings : Readings) (base : Base) where
-  abbrev library : List Cell
-  library = base.library
+  abbrev cells : List Cell
+  cells = base.library
 
   abbrev first : Circuit
   first = base.netlist
 
-  all_made : (calls : List (ℕ × Call)) (vs : List Version) (ds : List Circuit) (holdings : ℕ → Holding) → AreMade library first vs ds → ((s : ℕ) → Sound library (first ∷ ds) (holdings s))
-      → (nets : List Circuit) × AreMade library first (vs ++ versions_in (run (sessions readings base) (record { versions = vs; sessions = holdings }) calls)) nets
-  all_made [] vs ds holdings are sound = (ds, subst (λ (l : List Version). AreMade library first l ds) (sym (append-nil vs)) are)
+  all_made : (calls : List (ℕ × Call)) (vs : List Version) (ds : List Circuit) (holdings : ℕ → Holding) → AreMade cells first vs ds → ((s : ℕ) → Sound cells (first ∷ ds) (holdings s))
+      → (nets : List Circuit) × AreMade cells first (vs ++ versions_in (run (sessions readings base) (record { versions = vs; sessions = holdings }) calls)) nets
+  all_made [] vs ds holdings are sound = (ds, subst (λ (l : List Version). AreMade cells first l ds) (sym (append-nil vs)) are)
   all_made (x ∷ calls) vs ds holdings are sound =
-      let m = act library readings (netlists library first vs) (holdings x.0) x.1 in
-      let g : Goes library readings first vs ds are m = subst (λ (l : List Circuit). Goes library readings first vs ds are (act library readings l (holdings x.0) x.1)) (sym (netlists_are library first vs ds are))
-      (goes library readings first vs ds are (holdings x.0) (sound x.0) x.1) in
+      let m = act cells readings (netlists cells first vs) (holdings x.0) x.1 in
+      let g : Goes cells readings first vs ds are m = subst (λ (l : List Circuit). Goes cells readings first vs ds are (act cells readings l (holdings x.0) x.1)) (sym (netlists_are cells first vs ds are))
+      (goes cells readings first vs ds are (holdings x.0) (sound x.0) x.1) in
       let next : ℕ → Holding = put x.0 m.has holdings in
-      let sound2 : (s : ℕ) → Sound library (first ∷ (ds ++ g.new)) (next s) = by_number x.0 (λ s. Sound library (first ∷ (ds ++ g.new)) (next s))
-      (subst (Sound library (first ∷ (ds ++ g.new))) (sym (put_same x.0 m.has holdings)) g.sound)
-      (λ s h. subst (Sound library (first ∷ (ds ++ g.new))) (sym (put_other x.0 s m.has holdings h)) (later_pin library (first ∷ ds) g.new (holdings s).draft (holdings s).pin (sound s))) in
+      let sound2 : (s : ℕ) → Sound cells (first ∷ (ds ++ g.new)) (next s) = by_number x.0 (λ s. Sound cells (first ∷ (ds ++ g.new)) (next s))
+      (subst (Sound cells (first ∷ (ds ++ g.new))) (sym (put_same x.0 m.has holdings)) g.sound)
+      (λ s h. subst (Sound cells (first ∷ (ds ++ g.new))) (sym (put_other x.0 s m.has holdings h)) (later_pin cells (first ∷ ds) g.new (holdings s).draft (holdings s).pin (sound s))) in
       let rest = all_made calls (vs ++ option_to_list m.gives) (ds ++ g.new) next g.all sound2 in
       let told = versions_in (run (sessions readings base) (record { versions = vs ++ option_to_list m.gives; sessions = next }) calls) in
-      (rest.0, subst (λ (l : List Version). AreMade library first l rest.0) (append_assoc vs (option_to_list m.gives) told) rest.1)
+      (rest.0, subst (λ (l : List Version). AreMade cells first l rest.0) (append_assoc vs (option_to_list m.gives) told) rest.1)
 
 pub versions_are_made : VersionsAreMade
 versions_are_made readings base calls =
     let last = all_made readings base calls [] [] (λ (s : ℕ). fresh) tt (λ s. refl) in
     (last.0, last.1, netlists_are base.library base.netlist _ last.0 last.1)
+
+pub made_versions_have_netlists : MadeVersionsHaveNetlists
+made_versions_have_netlists library c versions nets made = netlists_are library c versions nets made
+
+-- the first netlist, whatever versions come
+first_stays : (library : List Cell) (c : Circuit) (versions : List Version) → slice_get (netlists library c versions) 0 ≡ Some c
+first_stays library c [] = refl
+first_stays library c (v ∷ versions) = refl
+
+pub netlists_stay : NetlistsStay
+netlists_stay library c d [] others zero is = first_stays library c others ∙ is
+netlists_stay library c d [] others (suc n) is = absurd (cc)
+netlists_stay library c d (v ∷ versions) others zero is = is
+netlists_stay library c d (v ∷ versions) others (suc n) is = netlists_stay library (after library c v) d versions others n is

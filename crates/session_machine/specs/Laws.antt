@@ -1,7 +1,7 @@
 -- What holds of every machine of sessions.
-use Rattle.std.specs.Prelude.{◌≡◌, ℕ, ◌≤◌, false, List, [], ◌++◌, length, None}
+use Rattle.std.specs.Prelude.{◌≡◌, ℕ, ◌≤◌, false, List, [], ◌++◌, length, filter, None}
 use Rattle.session_machine.specs.Orders.{IsOrder, script_of}
-use Rattle.session_machine.specs.Machine.{Machine, events_of, calls_in, events, replies, published}
+use Rattle.session_machine.specs.Machine.{Machine, events_of, calls_in, sessions_in, events, replies, published}
 use Rattle.session_machine.specs.Alone.{Place, order_of, places_of, given_at, own, HasPlaces, Agrees, all_own}
 
 -- a local call publishes nothing
@@ -13,7 +13,12 @@ abbrev pub MakesEachCall : Type 0 → Type 0 → Type 0 → Type 0 → Type 0
 MakesEachCall C R S V = (machine : Machine C R S V) (scripts : List (List C)) (order : List ℕ) → IsOrder machine.shared scripts order
     → (session : ℕ) → calls_in (events_of session (events machine scripts order)) ≡ script_of scripts session
 
--- so does a session alone that has a place for each of its shared calls
+-- along an order the shared calls are made in that order
+abbrev pub FollowsOrder : Type 0 → Type 0 → Type 0 → Type 0 → Type 0
+FollowsOrder C R S V = (machine : Machine C R S V) (scripts : List (List C)) (order : List ℕ) → IsOrder machine.shared scripts order
+    → sessions_in (filter (λ e. machine.shared e.call) (events machine scripts order)) ≡ order
+
+-- each call of its script, once and in their order, is also made by a session alone that has a place for each of its shared calls
 abbrev pub AloneMakesEachCall : Type 0 → Type 0 → Type 0 → Type 0 → Type 0
 AloneMakesEachCall C R S V = (machine : Machine C R S V) (places : List (Place V)) (session : ℕ) (script : List C) → HasPlaces machine places session script
     → calls_in (own machine places session script) ≡ script

@@ -46,6 +46,10 @@ module _ {C R V : Type 0} where
   abbrev pub calls_in : List (Event C R V) → List C
   calls_in events = map (λ e. e.call) events
 
+  -- the session numbers of events
+  abbrev pub sessions_in : List (Event C R V) → List ℕ
+  sessions_in events = map (λ e. e.session) events
+
   -- the versions that events published, in order
   abbrev pub versions_in : List (Event C R V) → List V
   versions_in events = flat_map (λ e. option_to_list e.gives) events

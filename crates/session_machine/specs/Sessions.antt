@@ -1,5 +1,5 @@
 -- The machine of sessions over a base, and what holds of it.
-use Rattle.std.specs.Prelude.{◌≡◌, ℕ, List, ◌∷◌, None}
+use Rattle.std.specs.Prelude.{◌≡◌, ℕ, List, ◌∷◌, ◌++◌, slice_get, Some, None}
 use Rattle.cell_arcs.specs.declared.cells.Cell.{Cell}
 use Rattle.netlist_model.specs.Circuit.{Circuit}
 use Rattle.session_script.specs.Calls.{is_shared}
@@ -44,3 +44,12 @@ abbrev pub VersionsAreMade : Type 0
 VersionsAreMade = (readings : Readings) (base : Base) (calls : List (ℕ × Call)) →
     let versions = versions_in (run (sessions readings base) (opening (sessions readings base)) calls) in
     (nets : List Circuit) × AreMade base.library base.netlist versions nets × (netlists base.library base.netlist versions ≡ base.netlist ∷ nets)
+
+-- versions that are made have the netlists that they make
+abbrev pub MadeVersionsHaveNetlists : Type 0
+MadeVersionsHaveNetlists = (library : List Cell) (c : Circuit) (versions : List Version) (nets : List Circuit) → AreMade library c versions nets → netlists library c versions ≡ c ∷ nets
+
+-- the netlist of a version stays the same, whatever versions come
+abbrev pub NetlistsStay : Type 0
+NetlistsStay = (library : List Cell) (c d : Circuit) (versions more : List Version) (number : ℕ) →
+    slice_get (netlists library c versions) number ≡ Some d → slice_get (netlists library c (versions ++ more)) number ≡ Some d

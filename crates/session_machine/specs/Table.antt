@@ -48,17 +48,17 @@ abbrev pub Act : Type 0
 Act = Step Reply Holding Version
 
 -- the session has this then, and nothing is published
-abbrev pub replies : Holding → Reply → Act
-replies has reply = record { has = has; reply = reply; gives = None }
+abbrev pub only_replies : Holding → Reply → Act
+only_replies has reply = record { has = has; reply = reply; gives = None }
 
 -- a refusal leaves the session as it was
 abbrev pub refuses : Holding → Refusal → Act
-refuses has refusal = replies has (Refused refusal)
+refuses has refusal = only_replies has (Refused refusal)
 
 -- the refusal where there is one, else the act
-abbrev pub unless : Option Refusal → Holding → Act → Act
-unless (Some refusal) has act = refuses has refusal
-unless None has act = act
+abbrev pub unless_refused : Option Refusal → Holding → Act → Act
+unless_refused (Some refusal) has act = refuses has refusal
+unless_refused None has act = act
 
 -- the session with another pin
 abbrev pub pinned_at : Holding → ℕ → Holding
@@ -95,13 +95,13 @@ edit_added has e (Err fault) = (has, Refused (Statement fault))
 
 -- the draft on the newest version; no edits are refused for want of memory
 abbrev pub rebased : Holding → ℕ → Result Circuit EditFault → Act
-rebased has head (Ok c) = replies (pinned_at has head) (Rebased head)
+rebased has head (Ok c) = only_replies (pinned_at has head) (Rebased head)
 rebased has head (Err (edits.At n fault)) = refuses has (why.Edit n fault)
 rebased has head (Err edits.Memory) = refuses has (why.Edit 0 statement.Memory)
 
 -- the draft as a new version
-abbrev pub published : Holding → ℕ → Act
-published has number = record { has = record { pin = Some number; draft = [] }; reply = Published number; gives = Some has.draft }
+abbrev pub new_version : Holding → ℕ → Act
+new_version has number = record { has = record { pin = Some number; draft = [] }; reply = Published number; gives = Some has.draft }
 
 -- whether the pin is this number
 abbrev pub is_at : ℕ → Option ℕ → Bool
@@ -112,7 +112,7 @@ is_at number (Some pin) = pin == number
 abbrev pub publish : ℕ → Holding → Act
 publish head has =
     if is_at head has.pin
-    then (if nat_lt (head + 1) version_limit then published has (head + 1) else refuses has Full)
+    then (if nat_lt (head + 1) version_limit then new_version has (head + 1) else refuses has Full)
     else refuses has (Stale head)
 
 module _ (library : List Cell) (readings : Readings) where
@@ -139,10 +139,10 @@ module _ (library : List Cell) (readings : Readings) where
 
   -- a shared call that nothing blocked, over the netlists of all versions; the local calls have no row
   abbrev pub in_turn : List Circuit → Holding → Call → Act
-  in_turn nets has call.Pin = replies (pinned_at has (head_of nets)) (Pinned (head_of nets))
+  in_turn nets has call.Pin = only_replies (pinned_at has (head_of nets)) (Pinned (head_of nets))
   in_turn nets has (call.PinAt n) =
       if nat_lt (head_of nets) n then refuses has (NoVersion (head_of nets))
-      else replies (pinned_at has n) (Pinned n)
+      else only_replies (pinned_at has n) (Pinned n)
   in_turn nets has call.Rebase = rebased has (head_of nets) (edited library has.draft (newest nets))
   in_turn nets has call.Publish = publish (head_of nets) has
   in_turn nets has (call.Make e) = refuses has NotPinned
@@ -174,5 +174,5 @@ module _ (library : List Cell) (readings : Readings) where
   abbrev pub act : List Circuit → Holding → Call → Act
   act nets has c =
       if is_shared c
-      then unless (blocked (pinned nets has) has.draft c) has (in_turn nets has c)
-      else (let done = local (pinned nets has) has c in replies done.0 done.1)
+      then unless_refused (blocked (pinned nets has) has.draft c) has (in_turn nets has c)
+      else (let done = local (pinned nets has) has c in only_replies done.0 done.1)

@@ -1,14 +1,20 @@
 //! What holds of every machine of sessions.
 //! A law is the contract of a function that does nothing: a call makes it known where it stands.
-ghost use Rattle.session_machine.specs.Laws.{MakesEachCall, AloneMakesEachCall, LooksNoFurther, OneOrder};
-ghost use Rattle.session_machine.specs.Sessions.{RefusalsChangeNothing, LocalsPublishNothing, SessionsAreOneOrder, VersionsAreMade};
+ghost use Rattle.session_machine.specs.Laws.{MakesEachCall, FollowsOrder, AloneMakesEachCall, LooksNoFurther, OneOrder};
+ghost use Rattle.session_machine.specs.Sessions.{RefusalsChangeNothing, LocalsPublishNothing, SessionsAreOneOrder, VersionsAreMade, MadeVersionsHaveNetlists, NetlistsStay};
 
 /// Along an order each session makes the calls of its script, each once and in their order.
 pub fn each_call_is_made<C, R, S, V>()
     ensures { MakesEachCall C R S V }
 {}
 
-/// So does a session alone that has a place for each of its shared calls.
+/// Along an order the shared calls are made in that order.
+pub fn order_is_followed<C, R, S, V>()
+    ensures { FollowsOrder C R S V }
+{}
+
+/// A session alone makes each call of its script, once and in their order, where it has a place for each of its
+/// shared calls.
 pub fn alone_makes_each_call<C, R, S, V>()
     ensures { AloneMakesEachCall C R S V }
 {}
@@ -44,4 +50,14 @@ pub fn sessions_are_one_order()
 /// Whatever calls are made, no edit of a published version is refused: each version is made of the one before it.
 pub fn versions_are_made()
     ensures { VersionsAreMade }
+{}
+
+/// Versions of which each is made of the one before it have the netlists that they make.
+pub fn made_versions_have_netlists()
+    ensures { MadeVersionsHaveNetlists }
+{}
+
+/// The netlist of a version stays the same, whatever versions come.
+pub fn netlists_stay()
+    ensures { NetlistsStay }
 {}
