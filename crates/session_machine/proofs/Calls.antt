@@ -210,14 +210,15 @@ module _ {V : Type 0} where
       let same = views_same s (more versions p.gives) ps others h in
       λ i. cond (p.session == s) (versions ∷ same i) (same i)
 
-pub each_call : (C R S V : Type 0) → MakesEachCall C R S V
-each_call C R S V machine scripts order is s = run_calls machine s (opening machine) (spread machine.shared scripts order) ∙ spread_calls machine scripts order is s
+module _ {C R S V : Type 0} (machine : Machine C R S V) where
+  pub each_call : MakesEachCall machine
+  each_call scripts order is s = run_calls machine s (opening machine) (spread machine.shared scripts order) ∙ spread_calls machine scripts order is s
 
-pub order_followed : (C R S V : Type 0) → FollowsOrder C R S V
-order_followed C R S V machine scripts order is = run_shared machine (opening machine) (spread machine.shared scripts order) ∙ spread_shared machine scripts order is
+  pub order_followed : FollowsOrder machine
+  order_followed scripts order is = run_shared machine (opening machine) (spread machine.shared scripts order) ∙ spread_shared machine scripts order is
 
-pub each_call_alone : (C R S V : Type 0) → AloneMakesEachCall C R S V
-each_call_alone C R S V machine places s script enough = own_calls machine s [] machine.fresh (views s [] places) script (views_counted s [] places ∙ enough)
+  pub each_call_alone : AloneMakesEachCall machine
+  each_call_alone places s script enough = own_calls machine s [] machine.fresh (views s [] places) script (views_counted s [] places ∙ enough)
 
-pub no_further : (C R S V : Type 0) → LooksNoFurther C R S V
-no_further C R S V machine places others s script none = ap (λ seen. own_from machine s [] machine.fresh seen script) (views_same s [] places others none)
+  pub no_further : LooksNoFurther machine
+  no_further places others s script none = ap (λ seen. own_from machine s [] machine.fresh seen script) (views_same s [] places others none)

@@ -6,7 +6,7 @@ use native.Mathlib.Decide.{dec_le}
 use Rattle.session_machine.specs.Orders.{times, script_of, shared_calls}
 use Rattle.session_machine.specs.Machine.{Machine, given_by}
 use Rattle.session_machine.specs.Alone.{Place, order_of, places_of, given_at, own, Agrees}
-use Rattle.session_machine.specs.Laws.{OneOrder}
+use Rattle.session_machine.specs.Laws.{IsQuiet, IsOneOrder}
 use Rattle.session_machine.proofs.Runs.{one_order}
 use Rattle.session_machine.proofs.Scripts.{none_before, none_outside}
 
@@ -25,8 +25,8 @@ module _ {C R S V : Type 0} (machine : Machine C R S V) (places : List (Place V)
       let no_times : times s (order_of places) ≡ 0 = count ∙ ap (shared_calls machine.shared) none in
       ap given_at (no_places s places no_times) ∙ ap (λ l. given_by machine.shared (own machine places s l)) (sym none)
 
-pub all_alone : (C R S V : Type 0) → OneOrder C R S V
-all_alone C R S V machine quiet scripts places order agree = one_order machine quiet scripts places order (λ s.
+pub all_alone : {C R S V : Type 0} (machine : Machine C R S V) → IsQuiet machine → IsOneOrder machine
+all_alone machine quiet scripts places order agree = one_order machine quiet scripts places order (λ s.
     dite (dec_le 1 s)
     (λ from. dite (dec_le s (length scripts)) (λ upto. agree s from upto) (λ above. agrees_outside machine places scripts s (order s) (none_outside 1 s scripts (omega arith))))
     (λ below. agrees_outside machine places scripts s (order s) (none_before 1 s scripts (omega arith))))

@@ -104,4 +104,4 @@ locals_publish_nothing readings base versions has c is =
     ap (λ b. (cond b (unless_refused (blocked base.library readings net has.draft c) has (in_turn base.library readings nets has c)) (only_replies done.0 done.1)).gives) is
 
 pub sessions_are_one_order : SessionsAreOneOrder
-sessions_are_one_order readings base = all_alone _ _ _ _ (sessions readings base) (locals_publish_nothing readings base)
+sessions_are_one_order readings base = all_alone (sessions readings base) (locals_publish_nothing readings base)

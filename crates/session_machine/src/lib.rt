@@ -18,7 +18,7 @@ mod worked_scripts;
 pub use laws::{
     alone_is_the_machine, alone_looks_no_further, alone_makes_each_call, each_call_is_made,
     local_calls_publish_nothing, made_versions_have_netlists, netlists_stay, order_is_followed,
-    refusals_change_nothing, sessions_are_one_order, versions_are_made,
+    refusals_change_nothing, sessions_are_one_order, sessions_make_each_call, versions_are_made,
 };
 pub use replies::{Refusal, Reply};
 pub use worked_scripts::{

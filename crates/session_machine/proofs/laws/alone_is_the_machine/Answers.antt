@@ -2,4 +2,4 @@ use Rattle.session_machine.proofs.Law.{all_alone}
 use Rattle.session_machine.proofs.laws.alone_is_the_machine.Goals as goal
 
 pub returns : goal.returns
-returns g c = all_alone _ _ _ _
+returns g c = λ machine. all_alone machine
