@@ -1,5 +1,5 @@
 -- Scripts carried out by the definition. What stands for an analysis tells how many nets a netlist has.
-use Rattle.std.specs.Prelude.{◌≡◌, ℕ, List, [], ◌∷◌, length, codes, Option, Some, None}
+use Rattle.std.specs.Prelude.{◌≡◌, ℕ, ◌==◌, if◌then◌else◌, true, List, [], ◌∷◌, length, codes, Option, Some, None}
 use Rattle.netlist_model.specs.Circuit.{Circuit, nothing}
 use Rattle.netlist_model.specs.declared.edits.Edit.TheVariants.{Net}
 use Rattle.netlist_model.specs.declared.faults.StatementFault.TheVariants.{NameTaken}
@@ -10,8 +10,8 @@ use Rattle.session_machine.specs.Table.{Readings}
 use Rattle.session_machine.specs.Versions.{Version}
 use Rattle.session_machine.specs.Sessions.{Base, sessions}
 use Rattle.session_machine.specs.declared.replies.Reply.{Reply}
-use Rattle.session_machine.specs.declared.replies.Reply.TheVariants.{Pinned, Rebased, Published, Edited, Draft, Refused}
-use Rattle.session_machine.specs.declared.replies.Refusal.TheVariants.{DraftOpen, EmptyDraft, Stale, Edit}
+use Rattle.session_machine.specs.declared.replies.Reply.TheVariants.{Pinned, Rebased, Published, Edited, Dropped, Draft, Refused}
+use Rattle.session_machine.specs.declared.replies.Refusal.TheVariants.{NotPinned, DraftOpen, NoVersion, EmptyDraft, NoRoot, Stale, Edit, Statement, NoEvent, NoFork}
 
 -- a netlist without nets
 abbrev pub no_nets : Base
@@ -23,6 +23,10 @@ counted c = Draft (length c.nets)
 
 abbrev pub net_counts : Readings
 net_counts = record { refusal = λ c. None; period = counted; cycle = counted; report = counted; arrival = λ c event. counted c; slack = λ c fork. counted c }
+
+-- the same, but a netlist of two nets is no version's
+abbrev pub two_refused : Readings
+two_refused = record net_counts { refusal = λ c. if length c.nets == 2 then Some NoRoot else None }
 
 -- the replies of each session along an order
 abbrev pub told : List (List Call) → List ℕ → List (List Reply)
@@ -68,3 +72,21 @@ RebaseIsRefused =
     told ((call.Pin ∷ adds (codes "A") ∷ call.Publish ∷ []) ∷ (call.Pin ∷ adds (codes "B") ∷ adds (codes "A") ∷ call.Publish ∷ call.Rebase ∷ call.Draft ∷ call.Period ∷ call.Pin ∷ []) ∷ [])
     (1 ∷ 2 ∷ 1 ∷ 2 ∷ 2 ∷ 2 ∷ [])
     ≡ (Pinned 0 ∷ Edited 1 ∷ Published 1 ∷ []) ∷ (Pinned 0 ∷ Edited 1 ∷ Edited 2 ∷ Refused (Stale 1) ∷ Refused (Edit 2 NameTaken) ∷ Draft 2 ∷ Draft 0 ∷ Refused DraftOpen ∷ []) ∷ []
+
+-- the calls of one session that are refused, and those that are not: of two refusals that hold the first is told
+abbrev pub IsRefusedInOrder : Type 0
+IsRefusedInOrder =
+    told ((call.Period ∷ call.Publish ∷ call.Rebase ∷ call.Make (Net []) ∷ call.Drop ∷ call.PinAt 1 ∷ call.Pin ∷ call.Publish
+    ∷ adds (codes "A") ∷ call.PinAt 1 ∷ adds (codes "A") ∷ call.Drop
+    ∷ call.Arrival (record { net = codes "A"; rising = true }) ∷ call.Slack (codes "f") ∷ call.Draft ∷ []) ∷ []) (1 ∷ 1 ∷ 1 ∷ 1 ∷ 1 ∷ 1 ∷ [])
+    ≡ (Refused NotPinned ∷ Refused NotPinned ∷ Refused NotPinned ∷ Refused NotPinned ∷ Dropped 0 ∷ Refused (NoVersion 0) ∷ Pinned 0 ∷ Refused EmptyDraft
+    ∷ Edited 1 ∷ Refused DraftOpen ∷ Refused (Statement NameTaken) ∷ Dropped 1
+    ∷ Refused NoEvent ∷ Refused NoFork ∷ Draft 0 ∷ []) ∷ []
+
+-- a session whose pin is below the newest version is told first of its empty draft, and of what its netlist lacks
+abbrev pub StaleIsToldLast : Type 0
+StaleIsToldLast =
+    machine.replies (sessions two_refused no_nets)
+    ((call.Pin ∷ adds (codes "A") ∷ call.Publish ∷ []) ∷ (call.Pin ∷ call.Publish ∷ adds (codes "B") ∷ adds (codes "C") ∷ call.Publish ∷ call.Drop ∷ adds (codes "B") ∷ call.Publish ∷ []) ∷ [])
+    (2 ∷ 1 ∷ 1 ∷ 2 ∷ 2 ∷ 2 ∷ [])
+    ≡ (Pinned 0 ∷ Edited 1 ∷ Published 1 ∷ []) ∷ (Pinned 0 ∷ Refused EmptyDraft ∷ Edited 1 ∷ Edited 2 ∷ Refused NoRoot ∷ Dropped 2 ∷ Edited 1 ∷ Refused (Stale 1) ∷ []) ∷ []

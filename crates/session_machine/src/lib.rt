@@ -22,5 +22,6 @@ pub use laws::{
 };
 pub use replies::{Refusal, Reply};
 pub use worked_scripts::{
-    queries_are_of_the_pin, refused_rebase_keeps_the_draft, sessions_take_turns,
+    first_refusal_is_told, queries_are_of_the_pin, refused_rebase_keeps_the_draft,
+    sessions_take_turns, stale_is_told_last,
 };
