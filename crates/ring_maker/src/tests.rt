@@ -20,6 +20,15 @@ tick n2+ z1+ 1
 root z0+
 ";
 
+/// Stages, and how many bytes and lines the text of the ring has.
+const SIZES: [(u32, usize, usize); 5] = [
+    (3, 240, 16),
+    (4, 317, 21),
+    (11, 867, 56),
+    (1000, 97_799, 5_001),
+    (4096, 438_359, 20_481),
+];
+
 const LIBRARY: &str = "\
 [cell.C2]
 inputs = [\"A\", \"B\"]
@@ -36,6 +45,25 @@ arcs = [{ from = \"A\", sense = \"neg\", rise = 12, fall = 10 }]
 fn writes_the_ring_of_three_stages(rt: HostRuntime) -> Result<(), Fail> {
     let ring = muller_ring(rt.alloc(), 3)?;
     assert_eq!(rt; ring.bytes(), THREE_STAGES.as_bytes());
+    Ok(())
+}
+
+#[test]
+fn writes_rings_up_to_the_largest(rt: HostRuntime) -> Result<(), Fail> {
+    for (stages, bytes, lines) in SIZES {
+        let ring = muller_ring(rt.alloc(), stages)?;
+        let ends = ring.bytes().iter().filter(|byte| **byte == b'\n').count();
+        assert_eq!(rt;
+            (ring.bytes().len(), ends),
+            (bytes, lines),
+            "{stages} stages"
+        );
+    }
+    let ring = muller_ring(rt.alloc(), 4096)?;
+    assert!(rt;
+        ring.bytes()
+            .ends_with(b"\ntick n4095+ z4094+ 1\nroot z0+\n".as_slice())
+    );
     Ok(())
 }
 

@@ -25,11 +25,11 @@ fold_push f a [] x = refl
 fold_push f a (y ∷ ys) x = fold_push f (f a y) ys x
 
 -- one that passes behind others is one more
-count_by-push_yes : {A : Type 0} (p : A → Bool) (xs : List A) (x : A) → p x ≡ true → count_by p (xs ++ x ∷ []) ≡ count_by p xs + 1
+pub count_by-push_yes : {A : Type 0} (p : A → Bool) (xs : List A) (x : A) → p x ≡ true → count_by p (xs ++ x ∷ []) ≡ count_by p xs + 1
 count_by-push_yes p xs x is = fold_push (λ n y. n + (if p y then 1 else 0)) 0 xs x ∙ rw is refl
 
 -- and one that does not is none
-count_by-push_no : {A : Type 0} (p : A → Bool) (xs : List A) (x : A) → p x ≡ false → count_by p (xs ++ x ∷ []) ≡ count_by p xs
+pub count_by-push_no : {A : Type 0} (p : A → Bool) (xs : List A) (x : A) → p x ≡ false → count_by p (xs ++ x ∷ []) ≡ count_by p xs
 count_by-push_no p xs x is =
     let none : count_by p xs + 0 ≡ count_by p xs = omega arith in
     fold_push (λ n y. n + (if p y then 1 else 0)) 0 xs x ∙ rw is none
@@ -56,10 +56,10 @@ worded-push done line =
     rw (map-append words_of done (line ∷ []), filter-append has_word (map words_of done) (words_of line ∷ []))
     (map-append call_of (filter has_word (map words_of done)) (filter has_word (words_of line ∷ [])))
 
-blank_tests : (n : ℕ) → (n == 0) ≡ true → nat_lt 0 n ≡ false
+pub blank_tests : (n : ℕ) → (n == 0) ≡ true → nat_lt 0 n ≡ false
 blank_tests n h = grind (arith, nat_tests)
 
-word_tests : (n : ℕ) → (n == 0) ≡ false → nat_lt 0 n ≡ true
+pub word_tests : (n : ℕ) → (n == 0) ≡ false → nat_lt 0 n ≡ true
 word_tests n h = grind (arith, nat_tests)
 
 -- a line without words says nothing

@@ -52,3 +52,11 @@ AcceptedScriptsSayCalls = (bytes : List ℕ) (most reports : ℕ) (calls : List 
 -- a refused script is refused by its first line at fault
 abbrev pub FirstFaultyLineTold : Type 0
 FirstFaultyLineTold = (bytes : List ℕ) (most reports : ℕ) (e : ScriptFault) → script_of bytes most reports ≡ Err e → IsFaultyLine most reports (lines bytes) e
+
+-- lines that say calls, no more than may be, are read as those calls
+abbrev pub SaidCallsAreRead : Type 0
+SaidCallsAreRead = (bytes : List ℕ) (most reports : ℕ) (calls : List Call) → SayCalls most reports (lines bytes) calls → script_of bytes most reports ≡ Ok calls
+
+-- a line at fault behind lines that say calls refuses the script
+abbrev pub FaultyLineRefuses : Type 0
+FaultyLineRefuses = (bytes : List ℕ) (most reports : ℕ) (e : ScriptFault) → IsFaultyLine most reports (lines bytes) e → script_of bytes most reports ≡ Err e

@@ -14,5 +14,8 @@ mod tests;
 
 pub use calls::{Call, Script};
 pub use faults::ScriptFault;
-pub use laws::{accepted_scripts_say_their_calls, first_faulty_line_is_told};
+pub use laws::{
+    accepted_scripts_say_their_calls, first_faulty_line_is_told, first_faulty_line_refuses,
+    said_calls_are_read,
+};
 pub use scripts::read;

@@ -14,11 +14,11 @@ const SCRIPTS: &str = "\
  => 
 pin|period|delay i1 A 15 10|period|publish|period|pin 0|period| => Pin Period Delay Period Publish Period PinAt(0) Period
 pin|delay i1 A 15 10|publish|rebase|publish|period| => Pin Delay Publish Rebase Publish Period
-pin|move i3 B C|tick D- A+ 0|delinst i4|delnet D|publish| => Pin Edit Tick Edit Edit Publish
+pin|move i3 B C|tick D- A+ 0|delinst i4|delnet D|publish| => Pin Move Tick DelInst DelNet Publish
 pin|delay i1 A 12 10|delay i4 A 13 10|period|period|period|publish|rebase|draft|pin| => Pin Delay Delay Period Period Period Publish Rebase Draft Pin
 # two~||\tpin~| pin  3 # third~|drop#|cycle|report~| => Pin PinAt(3) Drop Cycle Report
 arrival A+|arrival +|arrival A-|slack f1|slack +=? => ArrivalRise ArrivalRise ArrivalFall Slack Slack
-root A-|net A|fork f A+ A- A+ 1 0 => Root Edit Edit
+root A-|net A|const r|inst i INV A=A Z=A|swap i BUF|fork f A+ A- A+ 1 0|delfork f => Root Net Const Inst Swap Fork DelFork
 pin 007 => Err(Syntax(1))
 pin|pin -1 => Err(Syntax(2))
 pin|# two|pin x y => Err(Syntax(3))
@@ -30,6 +30,7 @@ slack f g => Err(Syntax(1))
 report now => Err(Syntax(1))
 delay i1 A 15 => Err(Syntax(1))
 pin 9999999999999999999|Pin => Err(Syntax(2))
+pin|delinst|pin x => Err(Syntax(2))
 ";
 
 /// Scripts of so many reports, so many pins and a last line, and what each is read as: how many calls, or why it is refused.
@@ -58,25 +59,49 @@ const LONG_SCRIPTS: [(usize, usize, &str, Result<usize, ScriptFault>); 7] = [
     (64, 4032, "report now", Err(ScriptFault::Syntax(4097))),
 ];
 
+/// An edit in a word.
+fn edit_word(edit: &Edit) -> &'static str {
+    match edit {
+        Edit::Net(_) => "Net",
+        Edit::Const(_) => "Const",
+        Edit::Inst(_) => "Inst",
+        Edit::DelInst(_) => "DelInst",
+        Edit::DelNet(_) => "DelNet",
+        Edit::Move(_) => "Move",
+        Edit::Swap(_) => "Swap",
+        Edit::Delay(_) => "Delay",
+        Edit::Tick(_) => "Tick",
+        Edit::Root(_) => "Root",
+        Edit::Fork(_) => "Fork",
+        Edit::DelFork(_) => "DelFork",
+    }
+}
+
+/// A call in a word, but for the number of a version.
+fn call_word(call: &Call) -> &'static str {
+    match call {
+        Call::Pin => "Pin",
+        Call::PinAt(_) => "PinAt",
+        Call::Rebase => "Rebase",
+        Call::Publish => "Publish",
+        Call::Make(edit) => edit_word(edit),
+        Call::Drop => "Drop",
+        Call::Draft => "Draft",
+        Call::Period => "Period",
+        Call::Cycle => "Cycle",
+        Call::Arrival(event) if event.rising => "ArrivalRise",
+        Call::Arrival(_) => "ArrivalFall",
+        Call::Slack(_) => "Slack",
+        Call::Report => "Report",
+    }
+}
+
 /// A call in a word.
 fn word_of(alloc: Global, call: &Call) -> Result<String, Fail> {
+    let word = call_word(call);
     Ok(match call {
-        Call::Pin => format!(in alloc; "Pin")?,
-        Call::PinAt(number) => format!(in alloc; "PinAt({number})")?,
-        Call::Rebase => format!(in alloc; "Rebase")?,
-        Call::Publish => format!(in alloc; "Publish")?,
-        Call::Make(Edit::Delay(_)) => format!(in alloc; "Delay")?,
-        Call::Make(Edit::Tick(_)) => format!(in alloc; "Tick")?,
-        Call::Make(Edit::Root(_)) => format!(in alloc; "Root")?,
-        Call::Make(_) => format!(in alloc; "Edit")?,
-        Call::Drop => format!(in alloc; "Drop")?,
-        Call::Draft => format!(in alloc; "Draft")?,
-        Call::Period => format!(in alloc; "Period")?,
-        Call::Cycle => format!(in alloc; "Cycle")?,
-        Call::Arrival(event) if event.rising => format!(in alloc; "ArrivalRise")?,
-        Call::Arrival(_) => format!(in alloc; "ArrivalFall")?,
-        Call::Slack(_) => format!(in alloc; "Slack")?,
-        Call::Report => format!(in alloc; "Report")?,
+        Call::PinAt(number) => format!(in alloc; "{word}({number})")?,
+        _ => format!(in alloc; "{word}")?,
     })
 }
 
@@ -140,6 +165,27 @@ fn reads_as_many_calls_and_reports_as_are_left(rt: HostRuntime) -> Result<(), Fa
         };
         assert_eq!(rt; read, wanted, "{reports} reports, {pins} pins, {last}");
     }
+    Ok(())
+}
+
+#[test]
+fn reads_what_calls_carry(rt: HostRuntime) -> Result<(), Fail> {
+    let text = b"delay i1 A 15 10\narrival B-\nslack f1\n";
+    let Ok(script) = read(rt.alloc(), text.as_slice(), LINES, REPORTS) else {
+        return Err("no script".into());
+    };
+    let [
+        Call::Make(Edit::Delay(delay)),
+        Call::Arrival(event),
+        Call::Slack(fork),
+    ] = script.list()
+    else {
+        return Err("other calls".into());
+    };
+    assert!(rt; delay.inst.bytes() == b"i1".as_slice() && delay.pin.bytes() == b"A".as_slice());
+    assert!(rt; (delay.rise, delay.fall) == (15, 10));
+    assert!(rt; event.net.bytes() == b"B".as_slice() && !event.rising);
+    assert!(rt; fork.bytes() == b"f1".as_slice());
     Ok(())
 }
 

@@ -1,0 +1,9 @@
+mod Calls
+mod Law
+mod Owns
+mod Puts
+mod Runs
+mod Scripts
+mod Refusals
+mod Worked
+mod Sound
