@@ -62,7 +62,7 @@ fn found_at<R: Threads + Sync>(
     match analyse_netlist(rt, alloc, library, &netlist, &Plain) {
         Err(NetlistFault::Whole(WholeFault::Undriven(1))) => Ok(1),
         Err(NetlistFault::Whole(WholeFault::NoRoot)) => Ok(2),
-        Err(NetlistFault::Dead(events)) if events.list() == [0, 1] => Ok(3),
+        Err(NetlistFault::Dead(events)) if events.list() == [0, 1].as_slice() => Ok(3),
         Ok(found) if found.analysis.period.top() == 22 => Ok(4),
         _ => Ok(0),
     }
