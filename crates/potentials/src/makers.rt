@@ -1,4 +1,5 @@
 ghost use Rattle.std.specs.Prelude.{◌≡◌, ◌<◌, ◌≤◌, ℕ, pos, All, IfOk};
+ghost use Rattle.std.specs.Thread.{IsSync};
 ghost use Rattle.rule_system.specs.Walks.{IsConnected};
 ghost use Rattle.rule_system.specs.Weights.{HasNoGain, AreArrivals};
 ghost use Rattle.cyc_num.specs.Within.{LiesWithin};
@@ -28,6 +29,7 @@ pub trait ArrivalMaker {
         period: Ratio,
         reduced: &Reduced,
     ) -> Result<Times, AllocError>
+        requires sync { IsSync R.row }
         requires top { period.top ≤ 32768000000 }
         requires bottom { period.bottom ≤ 491520 }
         requires root { root < system.now.events }
