@@ -1,5 +1,5 @@
 // Rounds of workers, and the arrivals that they find.
-ghost use Rattle.std.specs.Prelude.{◌≡◌, ◌+◌, ◌<◌, ◌≤◌, ℕ, ℤ, pos, All, IfOk, IsTrue, length};
+ghost use Rattle.std.specs.Prelude.{◌≡◌, ◌+◌, ◌<◌, ◌≤◌, ℕ, ℤ, pos, All, IfOk, OnOk, IsTrue, length};
 ghost use Rattle.cyc_num.specs.Within.{LiesWithin};
 ghost use Rattle.rule_system.specs.Walks.{IsConnected};
 ghost use Rattle.rule_system.specs.Weights.{time_of, HasNoGain, AreArrivals};
@@ -98,7 +98,7 @@ impl<'g, G: Gate + Sync> Rounds<'g, G> {
         ensures within { All (LiesWithin time_limit) times.new }
         ensures known { seat.new.known ≡ times.new }
         ensures kept { NothingSinks seat.old.known seat.new.known }
-        ensures some_steps { steps.old ≤ steps.new }
+        ensures some_steps { steps.old < steps.new }
         ensures few_steps { steps.new ≤ steps.old + words.now.about.events }
     {
         rounds_begin();
@@ -136,7 +136,8 @@ impl<'g, G: Gate + Sync> Rounds<'g, G> {
         ensures within { IfOk result (λ x. All (LiesWithin time_limit) x) }
         ensures known { IfOk result (λ x. seat.new.known ≡ x) }
         ensures kept { NothingSinks seat.old.known seat.new.known }
-        ensures some_steps { steps.old ≤ steps.new }
+        ensures some_steps { OnOk result (steps.old < steps.new) }
+        ensures no_less { steps.old ≤ steps.new }
         ensures few_steps { steps.new ≤ steps.old + words.now.about.events }
     {
         let events = words.system().events();
@@ -167,7 +168,8 @@ impl<'g, G: Gate + Sync> Rounds<'g, G> {
     }
 }
 
-// A bound on a type parameter of an `impl` is known of this thread alone, so the gate's type is hidden here behind `dyn`.
+// In a trait's method the bounds of its `impl` hold in the calling thread alone, so workers could not pass a gate of a type parameter.
+// They can pass a `dyn` gate.
 impl<'g, 'd> ArrivalMaker for Rounds<'g, &'d (dyn Gate + Sync)> {
     fn arrivals<R: Threads + Sync>(
         &self,
