@@ -20,6 +20,8 @@ pub trait ArrivalMaker {
     ///
     /// Of `reduced` nothing is asked, and the arrivals are the same whatever it is: it is what a search for the period
     /// leaves, made once for a system and a period, and saves time for each root where it fits them.
+    ///
+    /// That threads may share `rt` is asked for by a clause beside the bound, since a maker that starts threads knows the clause alone.
     fn arrivals<R: Threads + Sync>(
         &self,
         rt: &R,

@@ -1,8 +1,7 @@
 // Rounds of workers, and the arrivals that they find.
-ghost use Rattle.std.specs.Prelude.{◌≡◌, ◌+◌, ◌<◌, ◌≤◌, ℕ, ℤ, pos, All, IfOk, OnOk, IsTrue, length};
+ghost use Rattle.std.specs.Prelude.{◌≡◌, ◌+◌, ◌<◌, ◌≤◌, pos, All, IfOk, OnOk, IsTrue, length};
 ghost use Rattle.cyc_num.specs.Within.{LiesWithin};
-ghost use Rattle.rule_system.specs.Walks.{IsConnected};
-ghost use Rattle.rule_system.specs.Weights.{time_of, HasNoGain, AreArrivals};
+ghost use Rattle.rule_system.specs.Weights.{time_of};
 ghost use Rattle.arrival_words.specs.About.{time_limit};
 ghost use Rattle.arrival_words.specs.Known.{Belongs, NothingSinks};
 ghost use Rattle.relax_rounds.specs.Rounds.{AreArrivalsIn, AreAttainedIn, IsFeasibleIn, IsRoundIn};
