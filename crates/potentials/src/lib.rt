@@ -17,5 +17,5 @@ mod weights;
 
 pub use checks::feasible;
 pub use makers::{ArrivalMaker, Plain};
-pub use starts::first_weights;
+pub use starts::{first_weights, first_weights_by};
 pub use times::Times;

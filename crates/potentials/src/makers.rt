@@ -1,4 +1,5 @@
 ghost use Rattle.std.specs.Prelude.{◌≡◌, ◌<◌, ◌≤◌, ℕ, pos, All, IfOk};
+ghost use Rattle.std.specs.Thread.{IsSync};
 ghost use Rattle.rule_system.specs.Walks.{IsConnected};
 ghost use Rattle.rule_system.specs.Weights.{HasNoGain, AreArrivals};
 ghost use Rattle.cyc_num.specs.Within.{LiesWithin};
@@ -19,6 +20,8 @@ pub trait ArrivalMaker {
     ///
     /// Of `reduced` nothing is asked, and the arrivals are the same whatever it is: it is what a search for the period
     /// leaves, made once for a system and a period, and saves time for each root where it fits them.
+    ///
+    /// That threads may share `rt` is asked for by a clause beside the bound, since a maker that starts threads knows the clause alone.
     fn arrivals<R: Threads + Sync>(
         &self,
         rt: &R,
@@ -28,6 +31,7 @@ pub trait ArrivalMaker {
         period: Ratio,
         reduced: &Reduced,
     ) -> Result<Times, AllocError>
+        requires sync { IsSync R.row }
         requires top { period.top ≤ 32768000000 }
         requires bottom { period.bottom ≤ 491520 }
         requires root { root < system.now.events }

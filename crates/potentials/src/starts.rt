@@ -27,7 +27,29 @@ pub fn first_weights(
     ensures root { IfOk result (λ x. time_of x root ≡ pos 0) }
     ensures within { IfOk result (λ x. All (LiesWithin 17000000000000000) x) }
 {
-    let order = Reduced::at(alloc, system, period)?.rules_from(alloc, root)?;
+    let reduced = Reduced::at(alloc, system, period)?;
+    first_weights_by(alloc, system, root, period, &reduced)
+}
+
+/// The same, with what a search for the period leaves already at hand. Nothing is asked of it: it saves time where it fits the
+/// system and the period.
+pub fn first_weights_by(
+    alloc: Global,
+    system: &System,
+    root: u32,
+    period: Ratio,
+    reduced: &Reduced,
+) -> Result<Times, AllocError>
+    requires top { period.top ≤ 32768000000 }
+    requires bottom { period.bottom ≤ 491520 }
+    requires root { root < system.now.events }
+    requires reachable { AllReachable system.now.events system.now.rules root }
+    ensures weights { IfOk result (λ x. ArePathWeights period.top period.bottom system.now.events system.now.rules root x) }
+    ensures attained { IfOk result (λ x. AreAttained period.top period.bottom system.now.events system.now.rules root x) }
+    ensures root { IfOk result (λ x. time_of x root ≡ pos 0) }
+    ensures within { IfOk result (λ x. All (LiesWithin 17000000000000000) x) }
+{
+    let order = reduced.rules_from(alloc, root)?;
     let weights = path_weights(alloc, system, &order, root, period.top(), period.bottom())?;
     Ok(Times::of(weights))
 }

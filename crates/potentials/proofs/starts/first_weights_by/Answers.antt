@@ -1,5 +1,5 @@
 use Rattle.potentials.proofs.Growth.{root_weight, weights_attained}
-use Rattle.potentials.proofs.starts.first_weights.Goals as goal
+use Rattle.potentials.proofs.starts.first_weights_by.Goals as goal
 
 pub returns-clause-root : goal.returns-clause-root
 returns-clause-root c = rw c.of.ensures (root_weight _ _ _ _ _ _ c.requires.root c.in_ok-weights.ensures.weights)
