@@ -90,13 +90,17 @@ fn netlists_and_their_reports(rt: HostRuntime) -> Result<(), Fail> {
         let netlist = made(alloc, netlist)?;
         let wanted = made(alloc, text)?;
         let files = (library.as_bytes(), netlist.as_slice(), b"".as_slice());
-        assert!(rt; writes(&rt, alloc, "analyze lib.toml a.net", files, &wanted)?, "{row}");
+        assert!(rt;
+            writes(&rt, alloc, "analyze lib.toml a.net", files, &wanted)?,
+            "{row}"
+        );
     }
     Ok(())
 }
 
 /// A ring of 33 inverters with 256 forks on 64 roots.
-const FORKED: &str = "33:net n@|;33:inst i@ INV A=n< Z=n@|;tick n32- n0+ 1|root n0+|;32:fork a@ n@+ n0+ n0- 0 0|fork b@ n@- n0+ n0- 0 0|fork c@ n@+ n0+ n0- 0 0|fork d@ n@- n0+ n0- 0 0|fork e@ n@+ n0+ n0- 0 0|fork f@ n@- n0+ n0- 0 0|fork g@ n@+ n0+ n0- 0 0|fork h@ n@- n0+ n0- 0 0|";
+const FORKED: &str =
+    "33:net n@|;33:inst i@ INV A=n< Z=n@|;tick n32- n0+ 1|root n0+|;32:fork a@ n@+ n0+ n0- 0 0|fork b@ n@- n0+ n0- 0 0|fork c@ n@+ n0+ n0- 0 0|fork d@ n@- n0+ n0- 0 0|fork e@ n@+ n0+ n0- 0 0|fork f@ n@- n0+ n0- 0 0|fork g@ n@+ n0+ n0- 0 0|fork h@ n@- n0+ n0- 0 0|";
 
 #[test]
 fn the_most_forks_and_roots(rt: HostRuntime) -> Result<(), Fail> {
@@ -104,12 +108,24 @@ fn the_most_forks_and_roots(rt: HostRuntime) -> Result<(), Fail> {
     let library = LIBRARY.as_bytes();
     let netlist = made(alloc, FORKED)?;
     let mut forked = shelf(alloc, library, &netlist, b"", Vec::new(alloc))?;
-    let (_outcome, sink) = run(&rt, alloc, "analyze lib.toml a.net", &mut forked, Vec::new(alloc))?;
+    let (_outcome, sink) = run(
+        &rt,
+        alloc,
+        "analyze lib.toml a.net",
+        &mut forked,
+        Vec::new(alloc),
+    )?;
     let front = b"period 726/1\ncycle 66 726 1\nstep 3 n0+ n1- 10 0\n";
     assert!(rt; sink.bytes().starts_with(front));
-    assert!(rt; sink.bytes().ends_with(b"fork g31 362/1 met\nfork h31 362/1 met\nend\n"));
+    assert!(rt;
+        sink.bytes()
+            .ends_with(b"fork g31 362/1 met\nfork h31 362/1 met\nend\n")
+    );
     // One fork more, on one root more: of the two limits that of the forks is told.
-    let more = made(alloc, format!(in alloc; "{FORKED};fork x n32+ n0+ n0- 0 0|")?.as_str())?;
+    let more = made(
+        alloc,
+        format!(in alloc; "{FORKED};fork x n32+ n0+ n0- 0 0|")?.as_str(),
+    )?;
     let files = (library, more.as_slice(), b"".as_slice());
     let wanted = b"fault: netlist line 325 S18 forks\n".as_slice();
     assert!(rt; writes(&rt, alloc, "analyze lib.toml a.net", files, wanted)?);

@@ -31,7 +31,10 @@ fn netlists_after_edits(rt: HostRuntime) -> Result<(), Fail> {
         let edits = made(alloc, edits)?;
         let wanted = made(alloc, text)?;
         let files = (LIBRARY.as_bytes(), netlist.as_slice(), edits.as_slice());
-        assert!(rt; writes(&rt, alloc, "apply lib.toml a.net a.edits", files, &wanted)?, "{row}");
+        assert!(rt;
+            writes(&rt, alloc, "apply lib.toml a.net a.edits", files, &wanted)?,
+            "{row}"
+        );
     }
     Ok(())
 }

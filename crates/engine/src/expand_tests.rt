@@ -167,7 +167,10 @@ fn netlists_and_their_rules(rt: HostRuntime) -> Result<(), Fail> {
         let netlist = made(alloc, netlist)?;
         let wanted = wanted(alloc, text)?;
         let files = (LIBRARY.as_bytes(), netlist.as_slice(), b"".as_slice());
-        assert!(rt; writes(&rt, alloc, "expand lib.toml a.net", files, &wanted)?, "{row}");
+        assert!(rt;
+            writes(&rt, alloc, "expand lib.toml a.net", files, &wanted)?,
+            "{row}"
+        );
     }
     Ok(())
 }
@@ -180,7 +183,10 @@ fn libraries_and_their_faults(rt: HostRuntime) -> Result<(), Fail> {
         let library = made(alloc, library)?;
         let wanted = made(alloc, text)?;
         let files = (library.as_slice(), b"".as_slice(), b"".as_slice());
-        assert!(rt; writes(&rt, alloc, "expand lib.toml a.net", files, &wanted)?, "{row}");
+        assert!(rt;
+            writes(&rt, alloc, "expand lib.toml a.net", files, &wanted)?,
+            "{row}"
+        );
     }
     Ok(())
 }
@@ -203,17 +209,29 @@ fn the_longest_file(rt: HostRuntime) -> Result<(), Fail> {
 }
 
 /// A cell of 16 inputs, each with an arc of sense `non`, and an inverter.
-const WIDE_CELLS: &str = "[cell.INV]|inputs = [\"A\"]|output = \"Z\"|arcs = [{ from = \"A\", sense = \"neg\", rise = 12, fall = 10 }]|[cell.N16]|output = \"Z\"|inputs = [;16:\"I@\", ;]|arcs = [;16:{ from = \"I@\", sense = \"non\", rise = 7, fall = 5 }, ;]|";
+const WIDE_CELLS: &str =
+    "[cell.INV]|inputs = [\"A\"]|output = \"Z\"|arcs = [{ from = \"A\", sense = \"neg\", rise = 12, fall = 10 }]|[cell.N16]|output = \"Z\"|inputs = [;16:\"I@\", ;]|arcs = [;16:{ from = \"I@\", sense = \"non\", rise = 7, fall = 5 }, ;]|";
 
 /// A ring of 2,048 such cells, of 131,072 rules.
-const WIDE_RING: &str = "2048:net m@|;2048:inst g@ N16 Z=m@ I0=m< I1=m< I2=m< I3=m< I4=m< I5=m< I6=m< I7=m< I8=m< I9=m< I10=m< I11=m< I12=m< I13=m< I14=m< I15=m<|";
+const WIDE_RING: &str =
+    "2048:net m@|;2048:inst g@ N16 Z=m@ I0=m< I1=m< I2=m< I3=m< I4=m< I5=m< I6=m< I7=m< I8=m< I9=m< I10=m< I11=m< I12=m< I13=m< I14=m< I15=m<|";
 
 /// A command, what stands behind the wide ring, and the front and the end of what is written.
 const WIDE: [(&str, &str, &str, &str); 6] = [
     ("expand", "", "events 4096 rules 131072|", "|"),
-    ("expand", "net w|inst wi INV A=m0 Z=w|", "fault: netlist H4 131074|", "H4 131074|"),
+    (
+        "expand",
+        "net w|inst wi INV A=m0 Z=w|",
+        "fault: netlist H4 131074|",
+        "H4 131074|",
+    ),
     ("analyze", "", "fault: netlist H2|", "H2|"),
-    ("analyze", "net w|inst wi INV A=m0 Z=w|root m0+|", "fault: netlist H4 131074|", "H4 131074|"),
+    (
+        "analyze",
+        "net w|inst wi INV A=m0 Z=w|root m0+|",
+        "fault: netlist H4 131074|",
+        "H4 131074|",
+    ),
     (
         "analyze",
         "net w|inst wi INV A=m0 Z=w|root m0+|tick w+ m0+ 1|",
@@ -237,8 +255,14 @@ fn the_most_rules(rt: HostRuntime) -> Result<(), Fail> {
         let mut shelf = shelf(alloc, &library, &netlist, b"", Vec::new(alloc))?;
         let line = format!(in alloc; "{command} lib.toml a.net")?;
         let (_outcome, sink) = run(&rt, alloc, line.as_str(), &mut shelf, Vec::new(alloc))?;
-        assert!(rt; sink.bytes().starts_with(&made(alloc, front)?), "{command} {more}");
-        assert!(rt; sink.bytes().ends_with(&made(alloc, back)?), "{command} {more}");
+        assert!(rt;
+            sink.bytes().starts_with(&made(alloc, front)?),
+            "{command} {more}"
+        );
+        assert!(rt;
+            sink.bytes().ends_with(&made(alloc, back)?),
+            "{command} {more}"
+        );
     }
     Ok(())
 }

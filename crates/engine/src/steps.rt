@@ -55,11 +55,7 @@ pub(crate) fn read_library(alloc: Global, bytes: &[u8]) -> Result<Library, Fault
 }
 
 /// The netlist that bytes write over a library.
-pub(crate) fn read_netlist(
-    alloc: Global,
-    library: &Library,
-    bytes: &[u8],
-) -> Result<Netlist, Fault>
+pub(crate) fn read_netlist(alloc: Global, library: &Library, bytes: &[u8]) -> Result<Netlist, Fault>
     ensures ok { (seen : Seen) → IfOk result (Passes seen seen (netlist_read library.now bytes.now)) }
     ensures err { (seen : Seen) → IfErr result (Stops seen seen (netlist_read library.now bytes.now)) }
     ensures fits { IfOk result (λ netlist. Fits library.now netlist.insts) }
@@ -107,11 +103,7 @@ pub(crate) fn open_netlist<F: Shelf>(
 }
 
 /// The edits in a file.
-pub(crate) fn open_edits<F: Shelf>(
-    alloc: Global,
-    shelf: &mut F,
-    name: &str,
-) -> Result<Edits, Fault>
+pub(crate) fn open_edits<F: Shelf>(alloc: Global, shelf: &mut F, name: &str) -> Result<Edits, Fault>
     ensures ok { IfOk result (Passes (F.seen shelf.old) (F.seen shelf.new) (edits_opened name.now)) }
     ensures err { IfErr result (Stops (F.seen shelf.old) (F.seen shelf.new) (edits_opened name.now)) }
     ensures later { Later (F.seen shelf.old) (F.seen shelf.new) }

@@ -6,7 +6,6 @@ use std::alloc::{AllocError, Global};
 use std::test::Fail;
 use std::thread::Threads;
 
-
 pub(crate) const LIBRARY: &str =
     "[cell.BUF]\ninputs = [\"A\"]\noutput = \"Z\"\narcs = [{ from = \"A\", sense = \"pos\", rise = 9, fall = 8 }]\n[cell.INV]\ninputs = [\"A\"]\noutput = \"Z\"\narcs = [{ from = \"A\", sense = \"neg\", rise = 12, fall = 10 }]\n[cell.NOR2]\ninputs = [\"A\", \"B\"]\noutput = \"Z\"\narcs = [{ from = \"A\", sense = \"neg\", rise = 12, fall = 10 }, { from = \"B\", sense = \"neg\", rise = 12, fall = 10 }]\n[cell.X1]\ninputs = [\"A\"]\noutput = \"Z\"\narcs = [{ from = \"A\", sense = \"non\", rise = 7, fall = 5 }]\n[cell.R2]\ninputs = [\"A\", \"B\"]\noutput = \"Z\"\narcs = [{ from = \"B\", sense = \"neg\", rise = 12, fall = 10 }, { from = \"A\", sense = \"pos\", rise = 9, fall = 8 }]\n[cell.TIE]\ninputs = []\noutput = \"Z\"\narcs = []\n";
 
@@ -245,7 +244,10 @@ fn each_file_is_read_once_in_turn(rt: HostRuntime) -> Result<(), Fail> {
             let mut shelf = shelf(alloc, LIBRARY.as_bytes(), &netlist, b"", fail)?;
             let (outcome, sink) = run(&rt, alloc, line, &mut shelf, Vec::new(alloc))?;
             if call < reads {
-                assert!(rt; is_written(&outcome, &sink, name_at(call).as_bytes()), "{line}");
+                assert!(rt;
+                    is_written(&outcome, &sink, name_at(call).as_bytes()),
+                    "{line}"
+                );
             } else {
                 assert_eq!(rt; outcome.status, 0, "{line}");
             }
@@ -253,9 +255,21 @@ fn each_file_is_read_once_in_turn(rt: HostRuntime) -> Result<(), Fail> {
     }
     // A refused library takes one call: the next run's first fails.
     let mut shelf = shelf(alloc, b"x = ", &netlist, b"", vec![in alloc; 1]?)?;
-    let (outcome, _sink) = run(&rt, alloc, "analyze lib.toml a.net", &mut shelf, Vec::new(alloc))?;
+    let (outcome, _sink) = run(
+        &rt,
+        alloc,
+        "analyze lib.toml a.net",
+        &mut shelf,
+        Vec::new(alloc),
+    )?;
     assert_eq!(rt; outcome.status, 3);
-    let (outcome, sink) = run(&rt, alloc, "analyze lib.toml a.net", &mut shelf, Vec::new(alloc))?;
+    let (outcome, sink) = run(
+        &rt,
+        alloc,
+        "analyze lib.toml a.net",
+        &mut shelf,
+        Vec::new(alloc),
+    )?;
     assert!(rt; is_written(&outcome, &sink, name_at(0).as_bytes()));
     Ok(())
 }

@@ -163,6 +163,7 @@ module _ (sound_or_at_fault : SoundOrAtFault) (exists : AnalysisExists) (within 
       by_root : (o : Option ℕ) → whole_of library c ≡ None → c.root ≡ o → IfSome o (λ r. r < 2 * length c.nets) → (finding : Finding) × IsFinding library c finding
       by_root (Some root) whole same below = rooted_finding library c root is sound (record { whole = whole; is_root = same }) below
       by_root None whole same below = absurd (rootless library c whole same)
+
       by : (o : Option WholeFault) → whole_of library c ≡ o → (finding : Finding) × IsFinding library c finding
       by (Some fault) h = (Err (Whole fault), h)
       by None h = by_root c.root h refl sound.root

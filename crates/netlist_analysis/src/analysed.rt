@@ -9,7 +9,7 @@ ghost use Rattle.event_expand.specs.Systems.{system_of};
 ghost use Rattle.netlist_analysis.specs.Findings.{IsFinding, IsRooted, NamesBelow};
 
 use crate::faults::{EventList, NetlistFault};
-use analysis::{Analysis, AnalyseFault, analyse};
+use analysis::{AnalyseFault, Analysis, analyse};
 use cell_arcs::Library;
 use event_expand::{expand, forks_of};
 use netlist_model::{Netlist, WholeFault};

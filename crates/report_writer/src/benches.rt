@@ -102,7 +102,11 @@ pub fn bench_text(
     push_sizes(&mut text, net, system)?;
     push_period(&mut text, analysis.period)?;
     push_cycle(&mut text, rules, analysis.cycle.list())?;
-    push_span(&mut text, analysis.arrivals.list(), analysis.period.bottom())?;
+    push_span(
+        &mut text,
+        analysis.arrivals.list(),
+        analysis.period.bottom(),
+    )?;
     text.extend_from_slice(b"end\n")?;
     Text::of(alloc, &text)
 }

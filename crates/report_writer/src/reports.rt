@@ -52,7 +52,11 @@ fn offset_of(rules: &[Rule], walk: &[u32]) -> u64
 }
 
 /// Adds the line of the cycle's length and sums.
-pub(crate) fn push_cycle(text: &mut Vec<u8>, rules: &[Rule], cycle: &[u32]) -> Result<(), AllocError>
+pub(crate) fn push_cycle(
+    text: &mut Vec<u8>,
+    rules: &[Rule],
+    cycle: &[u32],
+) -> Result<(), AllocError>
     requires { AreSmallSums rules.now cycle.now }
     ensures { OnOk result (text.new.items ≡ text.old.items ++ spec.cycle_line rules.now cycle.now) }
 {

@@ -67,18 +67,16 @@ pub(crate) fn of_words<F: Shelf>(
 {
     match words {
         [library, netlist, edits]
-            if is_file(library.as_str())
-                && is_file(netlist.as_str())
-                && is_file(edits.as_str()) =>
-        {
-            of_files(
-                alloc,
-                shelf,
-                library.as_str(),
-                netlist.as_str(),
-                edits.as_str(),
-            )
-        }
+            if is_file(library.as_str()) && is_file(netlist.as_str()) && is_file(edits.as_str()) =>
+            {
+                of_files(
+                    alloc,
+                    shelf,
+                    library.as_str(),
+                    netlist.as_str(),
+                    edits.as_str(),
+                )
+            }
         _ => Err(Fault::Line(FaultLine::Usage)),
     }
 }
