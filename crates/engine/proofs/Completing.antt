@@ -1,6 +1,6 @@
 -- Each command's course is complete, so that words and files come to an answer.
 use Rattle.std.proofs.Common.{◌≡◌, ◌≢◌, ℕ, List, [], ◌∷◌, Bool, true, false, Option, Some, None, Result, Ok, Err, IfSome, refl, sym, ◌∙◌, inl, inr, arith, length, nat_le, if◌then◌else◌}
-use Rattle.std.specs.Prelude.{◌⊎◌, ◌&&◌, codes, option_map}
+use Rattle.std.specs.Prelude.{◌⊎◌, ◌&&◌, codes, is_some, option_map}
 use Rattle.std.specs.Str.{bytes_eq}
 use Rattle.std.specs.FinMap as map
 use Rattle.cyc_port.specs.Files.{Files}
@@ -38,7 +38,7 @@ use Rattle.engine.specs.declared.faults.Fault.TheVariants.{Line}
 use Rattle.engine.specs.Answers.{Answer, told, source_status, status_of}
 use Rattle.engine.specs.Courses.{Course, Writes, Refuses, Opens, Analyses, IsRefusal, OfContent, TellsNoWant, IsDue, IsVerdict}
 use Rattle.engine.specs.Files.{accepted, net_line, edits_line, library_read, netlist_read, edits_read, analysed}
-use Rattle.engine.specs.Words.{is_file_word, stages_of}
+use Rattle.engine.specs.Words.{is_file_word, stages_of, workers_of}
 use Rattle.engine.specs.Commands as commands
 use Rattle.engine.specs.Commands.{course_of, expand_of, analyze_of, apply_of, bench_of}
 use Rattle.engine.specs.Runs.{IsAnswer, IsOfCourse}
@@ -133,11 +133,18 @@ module _ (laws : Laws) where
   expand_words (a ∷ b ∷ []) = some_if (is_file_word a && is_file_word b) (Some (commands.expand_course a b)) None (expand_is a b) tt
   expand_words (a ∷ b ∷ c ∷ rest) = tt
 
+  analyze_named_is : (library netlist : List ℕ) (workers : Option ℕ) → IfSome (commands.analyze_named library netlist workers) IsComplete
+  analyze_named_is library netlist workers =
+      some_if (is_file_word library && is_file_word netlist && is_some workers) (Some (commands.analyze_course library netlist)) None
+      (analyze_is library netlist) tt
+
   analyze_words : (words : List (List ℕ)) → IfSome (analyze_of words) IsComplete
   analyze_words [] = tt
   analyze_words (a ∷ []) = tt
-  analyze_words (a ∷ b ∷ []) = some_if (is_file_word a && is_file_word b) (Some (commands.analyze_course a b)) None (analyze_is a b) tt
-  analyze_words (a ∷ b ∷ c ∷ rest) = tt
+  analyze_words (a ∷ b ∷ []) = analyze_named_is a b (Some 1)
+  analyze_words (a ∷ b ∷ c ∷ []) = tt
+  analyze_words (a ∷ b ∷ c ∷ d ∷ []) = analyze_named_is a b (workers_of c d)
+  analyze_words (a ∷ b ∷ c ∷ d ∷ e ∷ rest) = tt
 
   apply_words : (words : List (List ℕ)) → IfSome (apply_of words) IsComplete
   apply_words [] = tt
@@ -151,10 +158,15 @@ module _ (laws : Laws) where
   bench_stages None = tt
   bench_stages (Some stages) = bench_is stages
 
+  bench_named_is : (stages : List ℕ) (workers : Option ℕ) → IfSome (commands.bench_named stages workers) IsComplete
+  bench_named_is stages workers = some_if (is_some workers) (option_map commands.bench_course (stages_of stages)) None (bench_stages (stages_of stages)) tt
+
   bench_words : (words : List (List ℕ)) → IfSome (bench_of words) IsComplete
   bench_words [] = tt
-  bench_words (a ∷ []) = bench_stages (stages_of a)
-  bench_words (a ∷ b ∷ rest) = tt
+  bench_words (a ∷ []) = bench_named_is a (Some 1)
+  bench_words (a ∷ b ∷ []) = tt
+  bench_words (a ∷ b ∷ c ∷ []) = bench_named_is a (workers_of b c)
+  bench_words (a ∷ b ∷ c ∷ d ∷ rest) = tt
 
   courses_are : (words : List (List ℕ)) → IfSome (course_of words) IsComplete
   courses_are [] = tt

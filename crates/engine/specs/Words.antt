@@ -1,6 +1,7 @@
 -- The words behind a command's name.
-use Rattle.std.specs.Prelude.{◌==◌, ◌&&◌, ℕ, Bool, false, not, List, [], ◌∷◌, Option, Some, None, if◌then◌else◌, nat_le}
+use Rattle.std.specs.Prelude.{◌==◌, ◌&&◌, ℕ, Bool, false, not, List, [], ◌∷◌, Option, Some, None, codes, if◌then◌else◌, nat_le}
 use Rattle.std.specs.List.{list_all}
+use Rattle.std.specs.Str.{bytes_eq}
 use Rattle.cyc_text.specs.Number.{number_of}
 
 -- it has a first byte, which is no dash (45)
@@ -20,3 +21,12 @@ stages_within (Some n) = if nat_le 3 n && nat_le n 4096 then Some n else None
 -- the stages of a ring that a word says
 abbrev pub stages_of : List ℕ → Option ℕ
 stages_of word = stages_within (number_of word)
+
+-- the number where it is one of workers
+abbrev pub workers_within : Option ℕ → Option ℕ
+workers_within None = None
+workers_within (Some n) = if nat_le 1 n && nat_le n 64 then Some n else None
+
+-- the number of workers that two words say: `--workers N`
+abbrev pub workers_of : List ℕ → List ℕ → Option ℕ
+workers_of flag count = if bytes_eq flag (codes "--workers") then workers_within (number_of count) else None

@@ -7,21 +7,20 @@ ghost use Rattle.engine.specs.Runs.{MayGive};
 
 use crate::commands::{analyze, apply, bench, expand};
 use crate::faults::Fault;
-use cyc_port::Shelf;
+use cyc_port::{Gate, Shelf};
 use cyc_text::Text;
-use potentials::ArrivalMaker;
 use report_writer::FaultLine;
 use std::alloc::Global;
 use std::thread::Threads;
 
 /// What the words behind a command's name come to.
-fn judge_named<R: Threads + Sync, F: Shelf, M: ArrivalMaker>(
+fn judge_named<R: Threads + Sync, F: Shelf>(
     rt: &R,
     alloc: Global,
     name: &str,
     words: &[String],
     shelf: &mut F,
-    maker: &M,
+    gate: &(dyn Gate + Sync),
 ) -> Result<Text, Fault>
     ensures may { MayGive (course_named name.now (map string_bytes words.now)) (F.seen shelf.old) (F.seen shelf.new) result }
     ensures later { Later (F.seen shelf.old) (F.seen shelf.new) }
@@ -29,29 +28,29 @@ fn judge_named<R: Threads + Sync, F: Shelf, M: ArrivalMaker>(
     if name == "expand" {
         expand::of_words(rt, alloc, shelf, words)
     } else if name == "analyze" {
-        analyze::of_words(rt, alloc, shelf, words, maker)
+        analyze::of_words(rt, alloc, shelf, words, gate)
     } else if name == "apply" {
         apply::of_words(alloc, shelf, words)
     } else if name == "bench" {
-        bench::of_words(rt, alloc, words, maker)
+        bench::of_words(rt, alloc, words, gate)
     } else {
         Err(Fault::Line(FaultLine::Usage))
     }
 }
 
-/// What the words come to, over the files of the shelf and by a maker of arrivals.
-pub(crate) fn judge<R: Threads + Sync, F: Shelf, M: ArrivalMaker>(
+/// What the words come to, over the files of the shelf.
+pub(crate) fn judge<R: Threads + Sync, F: Shelf>(
     rt: &R,
     alloc: Global,
     words: &[String],
     shelf: &mut F,
-    maker: &M,
+    gate: &(dyn Gate + Sync),
 ) -> Result<Text, Fault>
     ensures may { MayGive (course_of (map string_bytes words.now)) (F.seen shelf.old) (F.seen shelf.new) result }
     ensures later { Later (F.seen shelf.old) (F.seen shelf.new) }
 {
     match words {
         [] => Err(Fault::Line(FaultLine::Usage)),
-        [name, rest @ ..] => judge_named(rt, alloc, name.as_str(), rest, shelf, maker),
+        [name, rest @ ..] => judge_named(rt, alloc, name.as_str(), rest, shelf, gate),
     }
 }

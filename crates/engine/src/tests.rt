@@ -43,6 +43,14 @@ analyze none.toml a.net => fault: read none.toml|
 analyze lib.toml none.net => fault: read none.net|
 analyze a.net none.net => fault: library L1|
 analyze lib.toml lib.toml => fault: netlist line 1 syntax|
+analyze lib.toml a.net --workers 1 => fault: netlist H2|
+analyze lib.toml a.net --workers 64 => fault: netlist H2|
+analyze lib.toml a.net --workers 0 => fault: usage|
+analyze lib.toml a.net --workers 65 => fault: usage|
+analyze lib.toml a.net --workers 01 => fault: usage|
+analyze lib.toml a.net --workers => fault: usage|
+analyze lib.toml a.net --workers 1 --workers 1 => fault: usage|
+analyze --workers 1 lib.toml a.net => fault: usage|
 apply => fault: usage|
 apply lib.toml a.net => fault: usage|
 apply lib.toml a.net a.edits a.edits => fault: usage|
@@ -65,6 +73,10 @@ bench 3 3 => fault: usage|
 bench three => fault: usage|
 bench 99999999999999999999 => fault: usage|
 bench 3 => bench 3|nets 6 events 12 rules 18|period 180/1|cycle 12 180 1|arrivals -120/1 40/1|end|
+bench 3 --workers 2 => bench 3|nets 6 events 12 rules 18|period 180/1|cycle 12 180 1|arrivals -120/1 40/1|end|
+bench 3 --workers 64 => bench 3|nets 6 events 12 rules 18|period 180/1|cycle 12 180 1|arrivals -120/1 40/1|end|
+bench 3 --workers 65 => fault: usage|
+bench --workers 2 3 => fault: usage|
 serve lib.toml a.net a.txt => fault: usage|
 ";
 

@@ -1,7 +1,7 @@
 //! The words behind a command's name.
-ghost use Rattle.std.specs.Prelude.{◌≡◌, ◌≤◌, ◌==◌, ◌&&◌, IfSome, Some, not, nat_le};
+ghost use Rattle.std.specs.Prelude.{◌≡◌, ◌≤◌, ◌<◌, ◌==◌, ◌&&◌, IfSome, Some, not, nat_le};
 ghost use Rattle.std.specs.List.{list_all};
-ghost use Rattle.engine.specs.Words.{is_begun_well, is_file_word, stages_of, stages_within};
+ghost use Rattle.engine.specs.Words.{is_begun_well, is_file_word, stages_of, stages_within, workers_of, workers_within};
 
 use cyc_text::read_number;
 
@@ -10,6 +10,9 @@ const LEAST_STAGES: u64 = 3;
 
 /// The most stages of a ring.
 const MOST_STAGES: u64 = 4096;
+
+/// The most workers.
+const MOST_WORKERS: u64 = 64;
 
 fn is_begun_well(word: &[u8]) -> bool
     ensures { result ≡ is_begun_well word.now }
@@ -56,5 +59,33 @@ pub(crate) fn read_stages(word: &str) -> Option<u32>
     match read_number(word.as_bytes()) {
         None => None,
         Some(number) => within(number),
+    }
+}
+
+/// The number where it is one of workers.
+fn workers_within(number: u64) -> Option<u32>
+    ensures workers { result ≡ workers_within (Some number) }
+    ensures some { IfSome result (λ n. 0 < n) }
+    ensures few { IfSome result (λ n. n ≤ 64) }
+{
+    if number >= 1 && number <= MOST_WORKERS {
+        Some(number as u32)
+    } else {
+        None
+    }
+}
+
+/// The number of workers that two words say: `--workers N`.
+pub(crate) fn read_workers(flag: &str, count: &str) -> Option<u32>
+    ensures workers { result ≡ workers_of flag.now count.now }
+    ensures some { IfSome result (λ n. 0 < n) }
+    ensures few { IfSome result (λ n. n ≤ 64) }
+{
+    if flag != "--workers" {
+        return None;
+    }
+    match read_number(count.as_bytes()) {
+        None => None,
+        Some(number) => workers_within(number),
     }
 }

@@ -1,20 +1,21 @@
 //! `analyze LIBRARY NETLIST`: the report of a netlist's analysis.
-ghost use Rattle.std.specs.Prelude.{◌≡◌, map};
+ghost use Rattle.std.specs.Prelude.{◌≡◌, ◌≤◌, ◌<◌, IfSome, map};
 ghost use Rattle.std.specs.String.{string_bytes};
 ghost use Rattle.cyc_port.specs.Seen.{Later, Seen};
 ghost use Rattle.netlist_model.specs.Sound.{Fits};
-ghost use Rattle.engine.specs.Commands.{analyze_circuit, analyze_course, analyze_of};
+ghost use Rattle.engine.specs.Commands.{analyze_circuit, analyze_course, analyze_named, analyze_of};
 ghost use Rattle.engine.specs.Runs.{MayGive};
 ghost use Rattle.engine.specs.Steps.{MayEnd};
 
 use crate::faults::Fault;
 use crate::steps::{analyse, open_library, open_netlist};
-use crate::words::is_file;
+use crate::words::{is_file, read_workers};
 use cell_arcs::Library;
-use cyc_port::Shelf;
+use cyc_port::{Gate, Shelf};
 use cyc_text::Text;
 use netlist_model::Netlist;
 use potentials::ArrivalMaker;
+use relax_rounds::Rounds;
 use report_writer::{FaultLine, report_text};
 use std::alloc::Global;
 use std::thread::Threads;
@@ -52,20 +53,65 @@ fn of_files<R: Threads + Sync, F: Shelf, M: ArrivalMaker>(
     report_of(rt, alloc, &library, &netlist, maker)
 }
 
+/// What names of files and a number of workers come to.
+fn of_named<R: Threads + Sync, F: Shelf>(
+    rt: &R,
+    alloc: Global,
+    shelf: &mut F,
+    library: &str,
+    netlist: &str,
+    workers: Option<u32>,
+    gate: &(dyn Gate + Sync),
+) -> Result<Text, Fault>
+    requires some { IfSome workers (λ n. 0 < n) }
+    requires few { IfSome workers (λ n. n ≤ 64) }
+    ensures may { MayGive (analyze_named library.now netlist.now workers) (F.seen shelf.old) (F.seen shelf.new) result }
+    ensures later { Later (F.seen shelf.old) (F.seen shelf.new) }
+{
+    match workers {
+        Some(workers) if is_file(library) && is_file(netlist) => {
+            let maker = Rounds {
+                workers,
+                gate: &gate,
+            };
+            of_files(rt, alloc, shelf, library, netlist, &maker)
+        }
+        _ => Err(Fault::Line(FaultLine::Usage)),
+    }
+}
+
 /// What the words come to.
-pub(crate) fn of_words<R: Threads + Sync, F: Shelf, M: ArrivalMaker>(
+pub(crate) fn of_words<R: Threads + Sync, F: Shelf>(
     rt: &R,
     alloc: Global,
     shelf: &mut F,
     words: &[String],
-    maker: &M,
+    gate: &(dyn Gate + Sync),
 ) -> Result<Text, Fault>
     ensures may { MayGive (analyze_of (map string_bytes words.now)) (F.seen shelf.old) (F.seen shelf.new) result }
     ensures later { Later (F.seen shelf.old) (F.seen shelf.new) }
 {
     match words {
-        [library, netlist] if is_file(library.as_str()) && is_file(netlist.as_str()) => {
-            of_files(rt, alloc, shelf, library.as_str(), netlist.as_str(), maker)
+        [library, netlist] => of_named(
+            rt,
+            alloc,
+            shelf,
+            library.as_str(),
+            netlist.as_str(),
+            Some(1),
+            gate,
+        ),
+        [library, netlist, flag, count] => {
+            let workers = read_workers(flag.as_str(), count.as_str());
+            of_named(
+                rt,
+                alloc,
+                shelf,
+                library.as_str(),
+                netlist.as_str(),
+                workers,
+                gate,
+            )
         }
         _ => Err(Fault::Line(FaultLine::Usage)),
     }

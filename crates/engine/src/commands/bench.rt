@@ -1,19 +1,21 @@
 //! `bench STAGES`: the result of the analysis of a Muller ring, which is made from its number of stages.
-ghost use Rattle.std.specs.Prelude.{◌≡◌, ◌≤◌, map};
+ghost use Rattle.std.specs.Prelude.{◌≡◌, ◌≤◌, ◌<◌, IfSome, map};
 ghost use Rattle.std.specs.String.{string_bytes};
 ghost use Rattle.cyc_port.specs.Seen.{Seen};
 ghost use Rattle.netlist_model.specs.Sound.{Fits};
-ghost use Rattle.engine.specs.Commands.{bench_circuit, bench_course, bench_of};
+ghost use Rattle.engine.specs.Commands.{bench_circuit, bench_course, bench_named, bench_of};
 ghost use Rattle.engine.specs.Runs.{MayGive};
 ghost use Rattle.engine.specs.Steps.{MayEnd};
 
 use crate::faults::Fault;
 use crate::steps::{analyse, read_library, read_netlist};
-use crate::words::read_stages;
+use crate::words::{read_stages, read_workers};
 use cell_arcs::Library;
+use cyc_port::Gate;
 use cyc_text::Text;
 use netlist_model::Netlist;
 use potentials::ArrivalMaker;
+use relax_rounds::Rounds;
 use report_writer::{FaultLine, bench_text};
 use ring_maker::{RingCells, muller_ring};
 use std::alloc::Global;
@@ -53,20 +55,48 @@ fn of_stages<R: Threads + Sync, M: ArrivalMaker>(
     result_of(rt, alloc, stages, &library, &netlist, maker)
 }
 
+/// What a word of stages and a number of workers come to.
+fn of_named<R: Threads + Sync>(
+    rt: &R,
+    alloc: Global,
+    stages: &str,
+    workers: Option<u32>,
+    gate: &(dyn Gate + Sync),
+) -> Result<Text, Fault>
+    requires some { IfSome workers (λ n. 0 < n) }
+    requires few { IfSome workers (λ n. n ≤ 64) }
+    ensures { (seen : Seen) → MayGive (bench_named stages.now workers) seen seen result }
+{
+    let Some(workers) = workers else {
+        return Err(Fault::Line(FaultLine::Usage));
+    };
+    match read_stages(stages) {
+        Some(stages) => {
+            let maker = Rounds {
+                workers,
+                gate: &gate,
+            };
+            of_stages(rt, alloc, stages, &maker)
+        }
+        None => Err(Fault::Line(FaultLine::Usage)),
+    }
+}
+
 /// What the words come to.
-pub(crate) fn of_words<R: Threads + Sync, M: ArrivalMaker>(
+pub(crate) fn of_words<R: Threads + Sync>(
     rt: &R,
     alloc: Global,
     words: &[String],
-    maker: &M,
+    gate: &(dyn Gate + Sync),
 ) -> Result<Text, Fault>
     ensures { (seen : Seen) → MayGive (bench_of (map string_bytes words.now)) seen seen result }
 {
-    let [stages] = words else {
-        return Err(Fault::Line(FaultLine::Usage));
-    };
-    match read_stages(stages.as_str()) {
-        Some(stages) => of_stages(rt, alloc, stages, maker),
-        None => Err(Fault::Line(FaultLine::Usage)),
+    match words {
+        [stages] => of_named(rt, alloc, stages.as_str(), Some(1), gate),
+        [stages, flag, count] => {
+            let workers = read_workers(flag.as_str(), count.as_str());
+            of_named(rt, alloc, stages.as_str(), workers, gate)
+        }
+        _ => Err(Fault::Line(FaultLine::Usage)),
     }
 }
