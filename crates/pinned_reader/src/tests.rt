@@ -1,19 +1,15 @@
 //! Rows of netlists and edits, and what is answered.
-ghost use Rattle.std.specs.Prelude.{◌≡◌, IfOk};
-ghost use Rattle.pinned_reader.specs.Rows.{IsAfter};
-
 use crate::{Pinned, Row, RowFault};
 use cell_arcs::Library;
 use cyc_text::Text;
 use edit_log::apply;
-use netlist_model::{Edit, EventName};
+use netlist_model::{Edit, Edits, EventName};
 use netlist_reader::{read, read_edits};
 use potentials::Plain;
 use std::alloc::{AllocError, Global};
 use std::sync::Arc;
 use std::test::Fail;
 use std::thread::Threads;
-use version_store::Hall;
 
 const INVERTER: &str =
     "[cell.INV]\ninputs = [\"A\"]\noutput = \"Z\"\narcs = [{ from = \"A\", sense = \"neg\", rise = 12, fall = 10 }]\n";
@@ -38,41 +34,48 @@ net Z; => Whole(Undriven(1))
 ; => Whole(NoRoot)
 ";
 
+/// The library of the tables.
+fn cells(alloc: Global) -> Result<Arc<Library, Global>, Fail> {
+    let library = Library::read(alloc, INVERTER.as_bytes())?;
+    Ok(Arc::new(alloc, library)?)
+}
+
+fn edits_of(alloc: Global, text: &str) -> Result<Edits, Fail> {
+    let text = text.replace(alloc, '|', "\n")?;
+    Ok(read_edits(alloc, text.as_bytes())?)
+}
+
+/// A handle on a row.
+fn shared(alloc: Global, row: Row) -> Result<Arc<Row, Global>, RowFault> {
+    Ok(Arc::new(alloc, row)?)
+}
+
+/// The row of a netlist.
+fn base<R: Threads + Sync>(
+    rt: &R,
+    alloc: Global,
+    library: &Arc<Library, Global>,
+    text: &str,
+) -> Result<Result<Arc<Row, Global>, RowFault>, Fail> {
+    let text = text.replace(alloc, '|', "\n")?;
+    let netlist = read(alloc, library, text.as_bytes())?;
+    match Row::base(rt, alloc, library, &netlist, &Plain) {
+        Ok(row) => Ok(shared(alloc, row)),
+        Err(fault) => Ok(Err(fault)),
+    }
+}
+
 /// The row after these edits, if they apply.
 fn after<R: Threads + Sync>(
     rt: &R,
     alloc: Global,
     parent: &Row,
     edits: &[Edit],
-) -> Result<Row, RowFault>
-    ensures { IfOk result (λ r. IsAfter r parent.now) }
-{
-    if apply(&parent.library, &parent.netlist, edits).is_err() {
+) -> Result<Arc<Row, Global>, RowFault> {
+    let Ok(_made) = apply(&parent.library, &parent.netlist, edits) else {
         return Err(RowFault::Memory);
-    }
-    Row::next(rt, alloc, parent, edits, &Plain)
-}
-
-/// The row of a netlist after edits.
-fn row_of<R: Threads + Sync>(
-    rt: &R,
-    alloc: Global,
-    library: &Arc<Library, Global>,
-    netlist: &str,
-    edits: &str,
-) -> Result<Result<Row, RowFault>, Fail> {
-    let netlist = netlist.replace(alloc, '|', "\n")?;
-    let netlist = read(alloc, library, netlist.as_bytes())?;
-    let base = Row::base(rt, alloc, library, &netlist, &Plain);
-    if edits.is_empty() {
-        return Ok(base);
-    }
-    let Ok(base) = base else {
-        return Ok(base);
     };
-    let edits = edits.replace(alloc, '|', "\n")?;
-    let edits = read_edits(alloc, edits.as_bytes())?;
-    Ok(after(rt, alloc, &base, edits.list()))
+    shared(alloc, Row::next(rt, alloc, parent, edits, &Plain)?)
 }
 
 fn event(alloc: Global, net: &str, rising: bool) -> Result<EventName, AllocError> {
@@ -81,12 +84,9 @@ fn event(alloc: Global, net: &str, rising: bool) -> Result<EventName, AllocError
 }
 
 /// What a row answers.
-fn answers(alloc: Global, row: Row) -> Result<String, Fail> {
+fn answers(alloc: Global, row: Arc<Row, Global>) -> Result<String, Fail> {
     let edits = row.edits.list().len();
-    let pinned = Pinned {
-        number: 0,
-        row: Arc::new(alloc, row)?,
-    };
+    let pinned = Pinned { number: 0, row };
     let top = pinned.period().top();
     let bottom = pinned.period().bottom();
     let cycle = pinned.cycle();
@@ -97,32 +97,50 @@ fn answers(alloc: Global, row: Row) -> Result<String, Fail> {
     Ok(format!(in alloc; "{edits} {top}/{bottom} {cycle:?} {fall:?} {rise:?} {one:?} {two:?}")?)
 }
 
-#[test]
-fn rows_and_their_answers(rt: HostRuntime) -> Result<(), Fail> {
-    let alloc = rt.alloc();
-    let library = Arc::new(alloc, Library::read(alloc, INVERTER.as_bytes())?)?;
-    'rows: for row in ROWS.lines() {
-        let (given, wanted) = row.split_once(" => ").ok_or("no arrow")?;
-        let (netlist, edits) = given.split_once(';').ok_or("no edits")?;
-        let netlist = netlist.replace(alloc, '%', RING)?;
-        let told = match row_of(&rt, alloc, &library, &netlist, edits)? {
-            Ok(row) => answers(alloc, row)?,
-            Err(fault) => format!(in alloc; "{fault:?}")?,
-        };
-        assert_eq!(rt; told.as_str(), wanted);
+/// What a row answers, or why there is none.
+fn told(alloc: Global, row: Result<Arc<Row, Global>, RowFault>) -> Result<String, Fail> {
+    match row {
+        Ok(row) => answers(alloc, row),
+        Err(fault) => Ok(format!(in alloc; "{fault:?}")?),
     }
-    Ok(())
+}
+
+/// What the row after edits answers, or the parent's where there are none.
+fn told_after<R: Threads + Sync>(
+    rt: &R,
+    alloc: Global,
+    parent: Arc<Row, Global>,
+    edits: &str,
+) -> Result<String, Fail> {
+    if edits.is_empty() {
+        return answers(alloc, parent);
+    }
+    let edits = edits_of(alloc, edits)?;
+    told(alloc, after(rt, alloc, &parent, edits.list()))
+}
+
+/// What is told of a netlist and edits.
+fn told_of<R: Threads + Sync>(
+    rt: &R,
+    alloc: Global,
+    library: &Arc<Library, Global>,
+    given: &str,
+) -> Result<String, Fail> {
+    let (netlist, edits) = given.split_once(';').ok_or("no edits")?;
+    let netlist = netlist.replace(alloc, '%', RING)?;
+    match base(rt, alloc, library, &netlist)? {
+        Ok(row) => told_after(rt, alloc, row, edits),
+        Err(fault) => told(alloc, Err(fault)),
+    }
 }
 
 #[test]
-fn a_row_is_published_on_its_parent(rt: HostRuntime) -> Result<(), Fail> {
-    let alloc = rt.alloc();
-    let library = Arc::new(alloc, Library::read(alloc, INVERTER.as_bytes())?)?;
-    let base = row_of(&rt, alloc, &library, RING, "")??;
-    let mut hall = Hall::open(alloc, Arc::new(alloc, base)?, 2)?;
-    let pin = hall.pin_latest(1)?;
-    let edits = read_edits(alloc, b"delay i1 A 15 10")?;
-    let row = after(&rt, alloc, &pin.row, edits.list())?;
-    assert!(rt; hall.publish(1, pin.number, Arc::new(alloc, row)?) == Ok(1));
+fn rows_and_their_answers(rt: HostRuntime) -> Result<(), Fail> {
+    let library = cells(rt.alloc())?;
+    'rows: for row in ROWS.lines() {
+        let (given, wanted) = row.split_once(" => ").ok_or("no arrow")?;
+        let told = told_of(&rt, rt.alloc(), &library, given)?;
+        assert_eq!(rt; told.as_str(), wanted);
+    }
     Ok(())
 }
