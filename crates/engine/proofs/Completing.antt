@@ -38,7 +38,7 @@ use Rattle.engine.specs.declared.faults.Fault.TheVariants.{Line}
 use Rattle.engine.specs.Answers.{Answer, told, source_status, status_of}
 use Rattle.engine.specs.Courses.{Course, Writes, Refuses, Opens, Analyses, IsRefusal, OfContent, TellsNoWant, IsDue, IsVerdict}
 use Rattle.engine.specs.Files.{accepted, net_line, edits_line, library_read, netlist_read, edits_read, analysed}
-use Rattle.engine.specs.Words.{is_file_word, stages_of, workers_of}
+use Rattle.engine.specs.Words.{is_file_word, stages_of, workers_behind}
 use Rattle.engine.specs.Commands as commands
 use Rattle.engine.specs.Commands.{course_of, expand_of, analyze_of, apply_of, bench_of}
 use Rattle.engine.specs.Runs.{IsAnswer, IsOfCourse}
@@ -141,10 +141,7 @@ module _ (laws : Laws) where
   analyze_words : (words : List (List ℕ)) → IfSome (analyze_of words) IsComplete
   analyze_words [] = tt
   analyze_words (a ∷ []) = tt
-  analyze_words (a ∷ b ∷ []) = analyze_named_is a b (Some 1)
-  analyze_words (a ∷ b ∷ c ∷ []) = tt
-  analyze_words (a ∷ b ∷ c ∷ d ∷ []) = analyze_named_is a b (workers_of c d)
-  analyze_words (a ∷ b ∷ c ∷ d ∷ e ∷ rest) = tt
+  analyze_words (a ∷ b ∷ rest) = analyze_named_is a b (workers_behind rest)
 
   apply_words : (words : List (List ℕ)) → IfSome (apply_of words) IsComplete
   apply_words [] = tt
@@ -163,10 +160,7 @@ module _ (laws : Laws) where
 
   bench_words : (words : List (List ℕ)) → IfSome (bench_of words) IsComplete
   bench_words [] = tt
-  bench_words (a ∷ []) = bench_named_is a (Some 1)
-  bench_words (a ∷ b ∷ []) = tt
-  bench_words (a ∷ b ∷ c ∷ []) = bench_named_is a (workers_of b c)
-  bench_words (a ∷ b ∷ c ∷ d ∷ rest) = tt
+  bench_words (a ∷ rest) = bench_named_is a (workers_behind rest)
 
   courses_are : (words : List (List ℕ)) → IfSome (course_of words) IsComplete
   courses_are [] = tt

@@ -30,3 +30,9 @@ workers_within (Some n) = if nat_le 1 n && nat_le n 64 then Some n else None
 -- the number of workers that two words say: `--workers N`
 abbrev pub workers_of : List ℕ → List ℕ → Option ℕ
 workers_of flag count = if bytes_eq flag (codes "--workers") then workers_within (number_of count) else None
+
+-- the number of workers that the words behind a command's own say: 1 where there are none
+abbrev pub workers_behind : List (List ℕ) → Option ℕ
+workers_behind [] = Some 1
+workers_behind (flag ∷ count ∷ []) = workers_of flag count
+workers_behind words = None

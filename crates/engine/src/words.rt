@@ -1,7 +1,8 @@
 //! The words behind a command's name.
-ghost use Rattle.std.specs.Prelude.{◌≡◌, ◌≤◌, ◌<◌, ◌==◌, ◌&&◌, IfSome, Some, not, nat_le};
+ghost use Rattle.std.specs.Prelude.{◌≡◌, ◌≤◌, ◌<◌, ◌==◌, ◌&&◌, IfSome, Some, map, not, nat_le};
 ghost use Rattle.std.specs.List.{list_all};
-ghost use Rattle.engine.specs.Words.{is_begun_well, is_file_word, stages_of, stages_within, workers_of, workers_within};
+ghost use Rattle.std.specs.String.{string_bytes};
+ghost use Rattle.engine.specs.Words.{is_begun_well, is_file_word, stages_of, stages_within, workers_behind, workers_of, workers_within};
 
 use cyc_text::read_number;
 
@@ -76,7 +77,7 @@ fn workers_within(number: u64) -> Option<u32>
 }
 
 /// The number of workers that two words say: `--workers N`.
-pub(crate) fn read_workers(flag: &str, count: &str) -> Option<u32>
+fn read_workers(flag: &str, count: &str) -> Option<u32>
     ensures workers { result ≡ workers_of flag.now count.now }
     ensures some { IfSome result (λ n. 0 < n) }
     ensures few { IfSome result (λ n. n ≤ 64) }
@@ -88,4 +89,19 @@ pub(crate) fn read_workers(flag: &str, count: &str) -> Option<u32>
         None => None,
         Some(number) => workers_within(number),
     }
+}
+
+/// The number of workers that the words behind a command's own say: 1 where there are none.
+pub(crate) fn workers_behind(words: &[String]) -> Option<u32>
+    ensures workers { result ≡ workers_behind (map string_bytes words.now) }
+    ensures some { IfSome result (λ n. 0 < n) }
+    ensures few { IfSome result (λ n. n ≤ 64) }
+{
+    if words.is_empty() {
+        return Some(1);
+    }
+    let [flag, count] = words else {
+        return None;
+    };
+    read_workers(flag.as_str(), count.as_str())
 }

@@ -9,7 +9,7 @@ ghost use Rattle.engine.specs.Steps.{MayEnd};
 
 use crate::faults::Fault;
 use crate::steps::{analyse, open_library, open_netlist};
-use crate::words::{is_file, read_workers};
+use crate::words::{is_file, workers_behind};
 use cell_arcs::Library;
 use cyc_port::{Gate, Shelf};
 use cyc_text::Text;
@@ -91,28 +91,16 @@ pub(crate) fn of_words<R: Threads + Sync, F: Shelf>(
     ensures may { MayGive (analyze_of (map string_bytes words.now)) (F.seen shelf.old) (F.seen shelf.new) result }
     ensures later { Later (F.seen shelf.old) (F.seen shelf.new) }
 {
-    match words {
-        [library, netlist] => of_named(
-            rt,
-            alloc,
-            shelf,
-            library.as_str(),
-            netlist.as_str(),
-            Some(1),
-            gate,
-        ),
-        [library, netlist, flag, count] => {
-            let workers = read_workers(flag.as_str(), count.as_str());
-            of_named(
-                rt,
-                alloc,
-                shelf,
-                library.as_str(),
-                netlist.as_str(),
-                workers,
-                gate,
-            )
-        }
-        _ => Err(Fault::Line(FaultLine::Usage)),
-    }
+    let [library, netlist, rest @ ..] = words else {
+        return Err(Fault::Line(FaultLine::Usage));
+    };
+    of_named(
+        rt,
+        alloc,
+        shelf,
+        library.as_str(),
+        netlist.as_str(),
+        workers_behind(rest),
+        gate,
+    )
 }

@@ -9,7 +9,7 @@ ghost use Rattle.engine.specs.Steps.{MayEnd};
 
 use crate::faults::Fault;
 use crate::steps::{analyse, read_library, read_netlist};
-use crate::words::{read_stages, read_workers};
+use crate::words::{read_stages, workers_behind};
 use cell_arcs::Library;
 use cyc_port::Gate;
 use cyc_text::Text;
@@ -91,12 +91,8 @@ pub(crate) fn of_words<R: Threads + Sync>(
 ) -> Result<Text, Fault>
     ensures { (seen : Seen) → MayGive (bench_of (map string_bytes words.now)) seen seen result }
 {
-    match words {
-        [stages] => of_named(rt, alloc, stages.as_str(), Some(1), gate),
-        [stages, flag, count] => {
-            let workers = read_workers(flag.as_str(), count.as_str());
-            of_named(rt, alloc, stages.as_str(), workers, gate)
-        }
-        _ => Err(Fault::Line(FaultLine::Usage)),
-    }
+    let [stages, rest @ ..] = words else {
+        return Err(Fault::Line(FaultLine::Usage));
+    };
+    of_named(rt, alloc, stages.as_str(), workers_behind(rest), gate)
 }
