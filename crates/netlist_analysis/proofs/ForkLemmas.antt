@@ -1,5 +1,5 @@
 -- The forks of a netlist are forks of its system.
-use Rattle.std.proofs.Common.{ℕ, ◌*◌, List, length, All, slice_index_or}
+use Rattle.std.proofs.Common.{◌*◌, length, All, slice_index_or}
 use Rattle.std.proofs.lemmas.List.Elements.{All-map}
 use Rattle.netlist_model.specs.Circuit.{Circuit}
 use Rattle.netlist_model.specs.Sound as sound

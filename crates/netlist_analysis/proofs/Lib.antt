@@ -1,4 +1,3 @@
 mod ForkLemmas
-pub mod Nothing
 mod OneFinding
 mod SystemFaults

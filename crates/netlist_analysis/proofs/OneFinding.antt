@@ -1,5 +1,5 @@
 -- A netlist has one finding.
-use Rattle.std.proofs.Common.{◌≡◌, ◌≢◌, ◌*◌, ◌<◌, ◌≤◌, ℕ, List, Option, Some, None, Result, Ok, Err, All, length, map, refl, sym, ap, ◌∙◌, inl, inr, arith, slice_index_or, subst, IfSome}
+use Rattle.std.proofs.Common.{◌≡◌, ◌≢◌, ◌*◌, ◌<◌, ◌≤◌, ℕ, List, Option, Some, None, Ok, Err, All, length, map, refl, sym, ap, ◌∙◌, inl, inr, arith, slice_index_or, subst, IfSome}
 use Rattle.std.specs.Prelude.{◌⊎◌}
 use Rattle.cell_arcs.specs.IsLibrary.{IsLibrary}
 use Rattle.cell_arcs.specs.declared.cells.Cell.{Cell}

@@ -8,8 +8,6 @@
 mod analysed;
 mod faults;
 pub mod laws;
-#[cfg(test)]
-mod tests;
 
 pub use analysed::{Analysed, analyse_netlist};
 pub use faults::{EventList, NetlistFault};
