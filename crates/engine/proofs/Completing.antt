@@ -1,22 +1,20 @@
 -- Each command's course is complete, so that words and files come to an answer.
 use Rattle.std.proofs.Common.{◌≡◌, ◌≢◌, ℕ, List, [], ◌∷◌, Bool, true, false, Option, Some, None, Result, Ok, Err, IfSome, refl, sym, ◌∙◌, inl, inr, arith, length, nat_le, if◌then◌else◌}
-use Rattle.std.specs.Prelude.{◌⊎◌, ◌&&◌, codes, is_some, option_map}
+use Rattle.std.specs.Prelude.{◌&&◌, codes, is_some, option_map}
 use Rattle.std.specs.Str.{bytes_eq}
 use Rattle.std.specs.FinMap as map
 use Rattle.cyc_port.specs.Files.{Files}
 use Rattle.cell_arcs.specs.declared.cells.Cell.{Cell}
-use Rattle.cell_arcs.specs.declared.faults.LibraryFault.{LibraryFault}
 use Rattle.cell_arcs.specs.declared.faults.LibraryFault.TheVariants as library
 use Rattle.cell_arcs.specs.IsLibrary.{IsLibrary}
 use Rattle.cell_arcs.specs.Library.{library_of}
 use Rattle.netlist_model.specs.Circuit.{Circuit}
 use Rattle.netlist_model.specs.Edits.{edited}
 use Rattle.netlist_model.specs.Expansion.{rules_of}
-use Rattle.netlist_model.specs.Sound.{IsNetlist, Fits}
+use Rattle.netlist_model.specs.Sound.{IsNetlist}
 use Rattle.netlist_model.specs.declared.edits.Edit.{Edit}
 use Rattle.netlist_model.specs.declared.faults.EditFault.{EditFault}
 use Rattle.netlist_model.specs.declared.faults.EditFault.TheVariants as edit
-use Rattle.netlist_model.specs.declared.faults.StatementFault.{StatementFault}
 use Rattle.netlist_model.specs.declared.faults.StatementFault.TheVariants as statement
 use Rattle.netlist_reader.specs.EditFiles.{edits_of}
 use Rattle.netlist_reader.specs.NetlistFiles.{netlist_of}
@@ -26,7 +24,6 @@ use Rattle.netlist_reader.specs.declared.faults.NetFault.{NetFault}
 use Rattle.netlist_reader.specs.declared.faults.NetFault.TheVariants as net
 use Rattle.analysis.specs.declared.analyses.Analysis.{Analysis}
 use Rattle.netlist_analysis.specs.Findings.{Finding, IsFinding}
-use Rattle.netlist_analysis.specs.declared.faults.NetlistFault.{NetlistFault}
 use Rattle.ring_maker.specs.Ring.{muller_ring, ring_library}
 use Rattle.report_writer.specs.NetlistLines.{netlist_line}
 use Rattle.report_writer.specs.Sources.{source_of}
@@ -36,7 +33,7 @@ use Rattle.report_writer.specs.declared.faults.Source.{Source}
 use Rattle.report_writer.specs.declared.faults.Source.TheVariants as source
 use Rattle.engine.specs.declared.faults.Fault.TheVariants.{Line}
 use Rattle.engine.specs.Answers.{Answer, told, source_status, status_of}
-use Rattle.engine.specs.Courses.{Course, Writes, Refuses, Opens, Analyses, IsRefusal, OfContent, TellsNoWant, IsDue, IsVerdict}
+use Rattle.engine.specs.Courses.{Course, Writes, Refuses, Opens, Analyses, IsRefusal, TellsNoWant, IsDue, IsVerdict}
 use Rattle.engine.specs.Files.{accepted, net_line, edits_line, library_read, netlist_read, edits_read, analysed}
 use Rattle.engine.specs.Words.{is_file_word, stages_of, workers_behind}
 use Rattle.engine.specs.Commands as commands

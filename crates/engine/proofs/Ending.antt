@@ -1,5 +1,5 @@
 -- What an answer that may come is over told files.
-use Rattle.std.proofs.Common.{◌≡◌, ◌≤◌, ◌<◌, ℕ, List, length, Option, Some, None, Ok, Err, refl, sym, ◌∙◌, inl, inr, arith}
+use Rattle.std.proofs.Common.{◌≡◌, ◌≤◌, ◌<◌, ℕ, List, length, Option, Some, None, refl, sym, ◌∙◌, inl, inr, arith}
 use Rattle.std.specs.Prelude.{◌⊎◌, IfSome, IsSomeAnd}
 use Rattle.std.specs.FinMap as map
 use Rattle.cyc_port.specs.Counts.{Rose}
@@ -15,7 +15,6 @@ use Rattle.report_writer.specs.Sources.{source_of}
 use Rattle.report_writer.specs.declared.faults.Source.{Source}
 use Rattle.report_writer.specs.declared.faults.Source.TheVariants as source
 use Rattle.report_writer.specs.declared.faults.FaultLine.TheVariants as line
-use Rattle.engine.specs.declared.faults.Fault.TheVariants.{Memory}
 use Rattle.engine.specs.Courses.{Course, Writes, Refuses, Opens, Analyses, OfContent, IsDue, IsVerdict, IsFileWord, Comes}
 
 -- a failed read of a file word

@@ -1,6 +1,6 @@
 -- Over told files each course has one answer at most, and one where it is complete.
-use Rattle.std.proofs.Common.{◌≡◌, ◌≢◌, ◌≤◌, ◌<◌, ℕ, List, length, Option, Some, None, refl, sym, ◌∙◌, inl, inr, arith, subst}
-use Rattle.std.specs.Prelude.{◌⊎◌, Ok, Err}
+use Rattle.std.proofs.Common.{◌≡◌, ◌≤◌, ◌<◌, ℕ, List, length, Option, Some, None, refl, sym, ◌∙◌, inl, inr, arith, subst}
+use Rattle.std.specs.Prelude.{◌⊎◌, Ok}
 use Rattle.std.specs.FinMap as map
 use Rattle.std.proofs.lemmas.Bool.{cases_lt}
 use Rattle.cyc_port.specs.Files.{Files, file_limit}
@@ -9,7 +9,6 @@ use Rattle.cell_arcs.specs.IsLibrary.{IsLibrary}
 use Rattle.netlist_model.specs.Circuit.{Circuit}
 use Rattle.netlist_model.specs.Sound.{IsNetlist}
 use Rattle.netlist_analysis.specs.Findings.{Finding, IsFinding}
-use Rattle.report_writer.specs.declared.faults.FaultLine.{FaultLine}
 use Rattle.report_writer.specs.declared.faults.FaultLine.TheVariants.{ReadFault, TooLong}
 use Rattle.engine.specs.Answers.{Answer, told}
 use Rattle.engine.specs.Courses.{Course, Writes, Refuses, Opens, Analyses, IsRefusal, IsDue, IsVerdict}

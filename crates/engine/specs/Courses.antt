@@ -1,5 +1,5 @@
 -- What a command does, file by file, and what it may answer. For all commands.
-use Rattle.std.specs.Prelude.{◌≡◌, ◌≢◌, ◌≤◌, ◌<◌, ◌⊎◌, ℕ, List, length, Option, Some, None, Ok, Err}
+use Rattle.std.specs.Prelude.{◌≡◌, ◌≢◌, ◌≤◌, ◌<◌, ◌⊎◌, ℕ, List, length, Option, Some, None, Ok}
 use Rattle.std.specs.FinMap as map
 use Rattle.cyc_port.specs.Counts.{Rose}
 use Rattle.cyc_port.specs.Files.{Files, IsFile, IsLongFile, file_limit}

@@ -1,8 +1,7 @@
 -- What commands do with the files that they open.
-use Rattle.std.specs.Prelude.{◌≡◌, ℕ, List, Result, Ok, Err}
+use Rattle.std.specs.Prelude.{ℕ, List, Result, Ok, Err}
 use Rattle.cell_arcs.specs.Library.{library_of}
 use Rattle.cell_arcs.specs.declared.cells.Cell.{Cell}
-use Rattle.cell_arcs.specs.declared.faults.LibraryFault.{LibraryFault}
 use Rattle.netlist_model.specs.Circuit.{Circuit}
 use Rattle.netlist_model.specs.declared.edits.Edit.{Edit}
 use Rattle.netlist_model.specs.declared.faults.StatementFault.TheVariants as statement
@@ -13,7 +12,6 @@ use Rattle.netlist_reader.specs.declared.faults.EditsFault.TheVariants as edits
 use Rattle.netlist_reader.specs.declared.faults.NetFault.{NetFault}
 use Rattle.netlist_reader.specs.declared.faults.NetFault.TheVariants as net
 use Rattle.analysis.specs.declared.analyses.Analysis.{Analysis}
-use Rattle.netlist_analysis.specs.Findings.{Finding}
 use Rattle.report_writer.specs.NetlistLines.{netlist_line}
 use Rattle.report_writer.specs.declared.faults.FaultLine.{FaultLine}
 use Rattle.report_writer.specs.declared.faults.FaultLine.TheVariants.{Library, NetSyntax, NetStatement, EditsSyntax, EditsStatement}

@@ -1,4 +1,4 @@
-use Rattle.engine.proofs.Completing.{Laws, has_answer, known_answer, told_answer}
+use Rattle.engine.proofs.Completing.{has_answer, known_answer, told_answer}
 use Rattle.engine.proofs.laws.verdicts_have_an_answer.Goals as goal
 
 pub returns-clause-answered : goal.returns-clause-answered
