@@ -1,6 +1,9 @@
 //! Rows of `analyze`.
-use crate::tests::{LIBRARY, made, run, shelf, writes};
+use crate::tests::{LIBRARY, made, run, run_past, shelf, writes};
+use cyc_port::Gate;
 use std::alloc::{AllocError, Global};
+use std::hint;
+use std::sync::atomic::{AtomicU64, Ordering};
 use std::test::Fail;
 
 /// A C-element, alone and with a reset that has no arc, behind the cells of the tables.
@@ -129,5 +132,52 @@ fn the_most_forks_and_roots(rt: HostRuntime) -> Result<(), Fail> {
     let files = (library, more.as_slice(), b"".as_slice());
     let wanted = b"fault: netlist line 325 S18 forks\n".as_slice();
     assert!(rt; writes(&rt, alloc, "analyze lib.toml a.net", files, wanted)?);
+    Ok(())
+}
+
+/// Holds the workers 1 and 2 until both have come. It gives up after so many turns, and notes it.
+#[derive(Drop)]
+struct Meeting {
+    first: AtomicU64,
+    second: AtomicU64,
+    given_up: AtomicU64,
+}
+
+impl Gate for Meeting {
+    fn pass(&self, who: u64) {
+        let came = if who == 1001 {
+            &self.first
+        } else {
+            &self.second
+        };
+        came.fetch_add(1, Ordering::SeqCst);
+        'turns: for _ in 0..1_000_000_000u64 {
+            if self.first.load(Ordering::SeqCst) > 0 && self.second.load(Ordering::SeqCst) > 0 {
+                return;
+            }
+            hint::spin_loop();
+        }
+        self.given_up.fetch_add(1, Ordering::SeqCst);
+    }
+}
+
+#[test]
+fn two_workers_run_at_once(rt: HostRuntime) -> Result<(), Fail> {
+    let alloc = rt.alloc();
+    let gate = Meeting {
+        first: AtomicU64::new(0),
+        second: AtomicU64::new(0),
+        given_up: AtomicU64::new(0),
+    };
+    let library = cells(alloc)?;
+    let row = ANALYSES.lines().nth(5).ok_or("no Muller ring")?;
+    let (netlist, text) = row.split_once(" => ").ok_or("no arrow")?;
+    let netlist = made(alloc, netlist)?;
+    let wanted = made(alloc, text)?;
+    let mut ring = shelf(alloc, library.as_bytes(), &netlist, b"", Vec::new(alloc))?;
+    let line = "analyze lib.toml a.net --workers 2";
+    let (_outcome, sink) = run_past(&rt, alloc, line, &mut ring, Vec::new(alloc), &gate)?;
+    assert_eq!(rt; sink.bytes(), wanted.as_slice());
+    assert_eq!(rt; gate.given_up.load(Ordering::SeqCst), 0);
     Ok(())
 }

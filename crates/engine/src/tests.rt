@@ -1,6 +1,6 @@
 //! Rows of words and files, and what is written for them.
 use crate::{Outcome, cyclone};
-use cyc_port::{MemShelf, MemSink, NamedFile, OpenGate, SinkStop};
+use cyc_port::{Gate, MemShelf, MemSink, NamedFile, OpenGate, SinkStop};
 use cyc_text::{Text, push_decimal, read_number};
 use std::alloc::{AllocError, Global};
 use std::test::Fail;
@@ -180,7 +180,25 @@ pub(crate) fn shelf(
     Ok(MemShelf::new(files, fail))
 }
 
-/// What the words on a line answer over a shelf, where a sink stops so.
+/// What the words on a line answer over a shelf, where a sink stops so and workers pass a gate.
+pub(crate) fn run_past<R: Threads + Sync>(
+    rt: &R,
+    alloc: Global,
+    line: &str,
+    shelf: &mut MemShelf,
+    stops: Vec<SinkStop>,
+    gate: &(dyn Gate + Sync),
+) -> Result<(Outcome, MemSink), AllocError> {
+    let mut sink = MemSink::new(alloc, ROOM, stops)?;
+    let mut words = Vec::new(alloc);
+    for word in line.split(' ') {
+        words.push(String::from_str(alloc, word)?)?;
+    }
+    let outcome = cyclone(rt, alloc, &words, shelf, &mut sink, gate);
+    Ok((outcome, sink))
+}
+
+/// The same past an open gate.
 pub(crate) fn run<R: Threads + Sync>(
     rt: &R,
     alloc: Global,
@@ -188,13 +206,7 @@ pub(crate) fn run<R: Threads + Sync>(
     shelf: &mut MemShelf,
     stops: Vec<SinkStop>,
 ) -> Result<(Outcome, MemSink), AllocError> {
-    let mut sink = MemSink::new(alloc, ROOM, stops)?;
-    let mut words = Vec::new(alloc);
-    for word in line.split(' ') {
-        words.push(String::from_str(alloc, word)?)?;
-    }
-    let outcome = cyclone(rt, alloc, &words, shelf, &mut sink, &OpenGate);
-    Ok((outcome, sink))
+    run_past(rt, alloc, line, shelf, stops, &OpenGate)
 }
 
 /// Whether the words on a line write this over a library, a netlist and edits.
