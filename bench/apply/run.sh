@@ -241,6 +241,8 @@ timed("nets from the front", nets, ["delnet n%d" % at for at in range(NETS)])
 timed("instances from the front", nets + insts, ["delinst u%d" % at for at in range(NETS)])
 ticks = ["tick n%d+ n%d- 1" % (at % NETS, 1 + at // NETS) for at in range(500000)]
 timed("ticks from the front", nets + ticks, [tick[:-1] + "0" for tick in ticks])
-timed("the first net over and over", nets, ["delnet n0", "net n0"] * 8192 + ["delnet n%d" % (at % NETS) for at in range(0)])
+timed("the first net again and again", nets, [word + " n%d" % (at % NETS) for at in range(4 * NETS) for word in ("delnet", "net")])
+ring = ["inst u%d INV A=n%d Z=n%d" % (at, (at - 1) % (NETS - 1), at) for at in range(NETS - 1)]
+timed("a net at the end, many pins", nets[:-1] + ring, ["net x", "delnet x"] * 20000)
 PYTHON
 python3 apply.py "$program"
