@@ -79,6 +79,14 @@ impl<'s> WordTable<'s> {
         self.system
     }
 
+    pub fn sound(&self)
+        ensures root { (about_words self.now).root < self.now.system.now.events }
+        ensures period { IsPeriodWithin (about_words self.now).top (about_words self.now).bottom }
+        ensures no_gain { HasNoGain (about_words self.now).top (about_words self.now).bottom self.now.system.now.rules }
+    {
+        let _ = &self.root;
+    }
+
     pub fn root(&self) -> u32
         ensures same { result ≡ (about_words self.now).root }
         ensures event { result < self.now.system.now.events }

@@ -97,6 +97,15 @@ impl<'s> Words<'s> {
         self.words.period()
     }
 
+    /// Makes known what holds of the root and the period of all words. It does nothing.
+    pub fn sound(&self)
+        ensures root { self.now.about.root < self.now.about.events }
+        ensures period { IsPeriodWithin self.now.about.top self.now.about.bottom }
+        ensures no_gain { HasNoGain self.now.about.top self.now.about.bottom self.now.about.rules }
+    {
+        self.words.sound();
+    }
+
     /// Relaxes the rules numbered from `from` up to, but not including, `to`: for each one load of the word of its source and one
     /// fetch_max of its target's.
     pub fn relax(&self, seat: &mut RelaxSeat, from: usize, to: usize)

@@ -73,8 +73,7 @@ pub fn expand<R: Threads + Sync>(
     ensures { IfOk result (λ system. system ≡ system_of library.now net.now) }
 {
     let events = 2 * net.net_count() as u32;
-    // What the count says of a library's cells bounds the delays.
-    let _ = library.count();
+    library.sound();
     let pieces = pieces_of(rt, alloc, library, net)?;
     let rules = pieces.concat(alloc)?;
     System::build(alloc, events, &rules)

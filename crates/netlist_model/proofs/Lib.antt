@@ -19,3 +19,4 @@ pub mod RootCounts
 pub mod Deleted
 pub mod Moved
 pub mod Undone
+pub mod WiredPins

@@ -10,3 +10,4 @@ pub mod Expansion
 pub mod Whole
 pub mod Sound
 pub mod Keyed
+pub mod Wired

@@ -18,8 +18,10 @@ mod tests;
 mod ticks;
 mod whole;
 mod wiring;
+mod words;
 
 pub use edits::{DelayOf, Edit, Edits, ForkText, InstOf, MoveOf, SwapOf, TickOf};
 pub use faults::{EditFault, StatementFault, WholeFault};
 pub use netlist::Netlist;
 pub use parts::{Delay, Delays, EventName, Fork, Instance, NetRef, NetRefs, PinNet, PinNets, Tick};
+pub use words::{EventWord, PinWord};

@@ -13,6 +13,7 @@ ghost use Rattle.netlist_model.specs.Whole.{IsChecked, idle_fault, undriven_faul
 ghost use Rattle.netlist_model.specs.declared.faults.StatementFault.TheVariants.{UnknownEvent};
 ghost use Rattle.netlist_model.specs.declared.parts.NetRef.TheVariants.{Net};
 
+mod owned;
 mod removals;
 
 use crate::counting::insts_count;
@@ -20,10 +21,11 @@ use crate::faults::{StatementFault, WholeFault};
 use crate::forks::Forks;
 use crate::instances::Instances;
 use crate::names::Names;
-use crate::parts::{Delay, Delays, EventName, Fork, Instance, NetRef, NetRefs, PinNet, Tick};
+use crate::parts::{Delay, Delays, Fork, Instance, NetRef, NetRefs, Tick};
 use crate::ticks::Ticks;
 use crate::whole::{first_idle, first_undriven};
-use crate::wiring::{arc_of, no_delays, pin_fault, ref_of, wire_of, wires_of};
+use crate::wiring::{arc_of, no_delays, pins_of, ref_of};
+use crate::words::{EventWord, PinWord};
 use cell_arcs::{Cell, Library};
 use cyc_text::{Limit, Text, is_name};
 use std::alloc::{AllocError, Global};
@@ -277,11 +279,11 @@ impl Netlist {
     }
 
     /// The event of a name, or the fault where there is none.
-    fn event_named(&self, event: &EventName) -> Result<u32, StatementFault>
+    fn event_named(&self, event: &EventWord<'_>) -> Result<u32, StatementFault>
         ensures event { result ≡ or_fault UnknownEvent (event_of self.now.nets event.now) }
         ensures within { IfOk result (λ e. e < 2 * length self.now.nets) }
     {
-        match self.event(event.net.bytes(), event.rising) {
+        match self.event(event.net(), event.rising()) {
             Some(found) => Ok(found),
             None => Err(StatementFault::UnknownEvent),
         }
@@ -331,7 +333,11 @@ impl Netlist {
 
     /// Makes an event the root. Another root is replaced where `again` says so, and refused where not.
     #[tactic(auto, unfolding(crate::specs::Statements::set_root))]
-    pub fn set_root(&mut self, event: &EventName, again: bool) -> Result<(), StatementFault>
+    pub fn set_root_by_words(
+        &mut self,
+        event: &EventWord<'_>,
+        again: bool,
+    ) -> Result<(), StatementFault>
         ensures ok { OnOk result (spec.set_root self.old event.now again ≡ Ok self.new) }
         ensures refused { IfErr result (λ e. e ≢ StatementFault.Memory → spec.set_root self.old event.now again ≡ Err e) }
         ensures unchanged { OnErr result (self.new ≡ self.old) }
@@ -347,10 +353,10 @@ impl Netlist {
 
     /// Gives a pair of events a tick, or takes theirs away where the count is 0. The count is at most 15.
     #[tactic(auto, unfolding(crate::specs::Statements::set_tick, crate::specs::Statements::start_tick, crate::specs::Statements::end_tick))]
-    pub fn set_tick(
+    pub fn set_tick_by_words(
         &mut self,
-        source: &EventName,
-        target: &EventName,
+        source: &EventWord<'_>,
+        target: &EventWord<'_>,
         count: u64,
     ) -> Result<(), StatementFault>
         ensures ok { OnOk result (spec.set_tick self.old source.now target.now count ≡ Ok self.new) }
@@ -384,12 +390,12 @@ impl Netlist {
 
     /// Adds a fork, which stands last. The margin is in picoseconds, at most 1,000,000, and the offset at most 15.
     #[tactic(auto, unfolding(crate::specs::Statements::add_fork, crate::specs::Statements::add_fork_of))]
-    pub fn add_fork(
+    pub fn add_fork_by_words(
         &mut self,
         name: &[u8],
-        root: &EventName,
-        fast: &EventName,
-        slow: &EventName,
+        root: &EventWord<'_>,
+        fast: &EventWord<'_>,
+        slow: &EventWord<'_>,
         margin: u64,
         offset: u64,
     ) -> Result<(), StatementFault>
@@ -433,12 +439,12 @@ impl Netlist {
 
     /// Adds an instance of a cell of the library, which stands last. Each pin of the cell is given once.
     #[tactic(auto, unfolding(crate::specs::Statements::add_inst))]
-    pub fn add_inst(
+    pub fn add_inst_by_words(
         &mut self,
         library: &Library,
         name: &[u8],
         cell: &[u8],
-        pins: &[PinNet],
+        pins: &[PinWord<'_>],
     ) -> Result<(), StatementFault>
         requires { Fits library.now self.old.insts }
         ensures ok { OnOk result (spec.add_inst library.now self.old name.now cell.now pins.now ≡ Ok self.new) }
@@ -467,7 +473,7 @@ impl Netlist {
         name: &[u8],
         at: usize,
         cell: &Cell,
-        pins: &[PinNet],
+        pins: &[PinWord<'_>],
     ) -> Result<(Instance, u32), StatementFault>
         requires { names.is_name name.now ≡ true }
         ensures ok { IfOk result (λ p. spec.add_inst_of self.now name.now at cell.now pins.now ≡ Ok (record self.now { insts = self.now.insts ++ p.0 ∷ [] })) }
@@ -479,22 +485,7 @@ impl Netlist {
         ensures free { IfOk result (λ p. driver_of self.now.insts p.1 ≡ None) }
         ensures fits { IfOk result (λ p. FitsCell cell.now p.0) }
     {
-        if let Some(fault) = pin_fault(&self.nets, &self.consts, cell, pins) {
-            return Err(fault);
-        }
-        let Some(mut refs) = wires_of(
-            self.alloc,
-            &self.nets,
-            &self.consts,
-            pins,
-            cell.inputs.list(),
-        )?
-        else {
-            return Err(StatementFault::BadPins);
-        };
-        let Some(output) = wire_of(&self.nets, &self.consts, pins, cell.output.bytes()) else {
-            return Err(StatementFault::BadPins);
-        };
+        let (mut refs, output) = pins_of(self.alloc, &self.nets, &self.consts, cell, pins)?;
         let net = self.free_net(output)?;
         refs.push(output)?;
         let instance = Instance {

@@ -6,3 +6,4 @@ pub mod NetlistFiles
 pub mod ReadBack
 pub mod Readings
 pub mod RefusedLines
+pub mod Told

@@ -5,7 +5,7 @@ ghost use Rattle.cyc_text.specs.Words as text;
 ghost use Rattle.netlist_reader.specs.EditFiles as spec;
 
 use crate::faults::{EditsFault, LineFault};
-use crate::lines::edit_of;
+use crate::lines::said_of;
 use crate::words::first_word;
 use cyc_text::next_line;
 use netlist_model::{Edit, Edits};
@@ -53,9 +53,9 @@ fn read_line(
     let Some((first, rest)) = first_word(line) else {
         return Ok(());
     };
-    match edit_of(alloc, first, rest) {
-        Ok(edit) => {
-            edits.push(edit)?;
+    match said_of(alloc, first, rest) {
+        Ok(said) => {
+            edits.push(said.own(alloc)?)?;
             Ok(())
         }
         Err(LineFault::Syntax) => Err(EditsFault::Syntax(number)),

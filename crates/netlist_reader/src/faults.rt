@@ -30,6 +30,17 @@ pub enum EditsFault {
     Memory,
 }
 
+impl From<AllocError> for EditsFault {
+    ghost use Rattle.std.specs.Prelude.{◌≡◌};
+    ghost use Rattle.netlist_reader.specs.declared.faults.EditsFault.TheVariants.{Memory};
+
+    ghost from_gives = { λ _ e. e ≡ Memory };
+
+    fn from(_: AllocError) -> Self {
+        EditsFault::Memory
+    }
+}
+
 impl<T: Drop> From<AllocFailed<T>> for EditsFault {
     ghost use Rattle.std.specs.Prelude.{◌≡◌};
     ghost use Rattle.netlist_reader.specs.declared.faults.EditsFault.TheVariants.{Memory};

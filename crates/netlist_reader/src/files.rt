@@ -4,13 +4,15 @@ ghost use Rattle.std.specs.Str.Lines.{lines};
 ghost use Rattle.cyc_text.specs.Words as text;
 ghost use Rattle.netlist_model.specs.Sound.{Fits};
 ghost use Rattle.netlist_reader.specs.NetlistFiles as spec;
+ghost use Rattle.netlist_reader.specs.Told.{told};
 
 use crate::faults::{LineFault, NetFault};
-use crate::lines::edit_of;
+use crate::lent::Said;
+use crate::lines::said_of;
 use crate::words::first_word;
 use cell_arcs::Library;
 use cyc_text::next_line;
-use netlist_model::{Edit, Netlist, StatementFault};
+use netlist_model::{Netlist, StatementFault};
 use std::alloc::Global;
 
 /// The netlist of a file, read to its end; or its first refused line.
@@ -67,55 +69,67 @@ fn read_line(
     let Some((first, rest)) = first_word(line) else {
         return Ok(());
     };
-    match edit_of(alloc, first, rest) {
-        Ok(edit) if is_in_file(&edit) => make_at_line(library, number, &edit, net),
+    match said_of(alloc, first, rest) {
+        Ok(said) if is_in_file(&said) => make_at_line(library, number, &said, net),
         Ok(_) | Err(LineFault::Syntax) => Err(NetFault::Syntax(number)),
         Err(LineFault::Memory) => Err(NetFault::Memory),
     }
 }
 
 /// Whether a netlist file may say this: it adds, and takes nothing away.
-fn is_in_file(edit: &Edit) -> bool
-    ensures { result ≡ spec.is_in_file edit.now }
+fn is_in_file(said: &Said<'_>) -> bool
+    ensures { result ≡ spec.is_in_file (told said.now) }
 {
-    match edit {
-        Edit::DelInst(_) => false,
-        Edit::DelNet(_) => false,
-        Edit::Move(_) => false,
-        Edit::Swap(_) => false,
-        Edit::DelFork(_) => false,
+    match said {
+        Said::DelInst(_) => false,
+        Said::DelNet(_) => false,
+        Said::Move(_) => false,
+        Said::Swap(_) => false,
+        Said::DelFork(_) => false,
         _ => true,
     }
 }
 
-/// Does the edit of line `number`.
+/// Does what line `number` says.
 fn make_at_line(
     library: &Library,
     number: u64,
-    edit: &Edit,
+    said: &Said<'_>,
     net: &mut Netlist,
 ) -> Result<(), NetFault>
     requires { Fits library.now net.old.insts }
-    ensures ok { OnOk result (spec.at_line number (spec.stated library.now net.old edit.now) ≡ Ok net.new) }
-    ensures refused { IfErr result (λ e. e ≢ NetFault.Memory → spec.at_line number (spec.stated library.now net.old edit.now) ≡ Err e) }
+    ensures ok { OnOk result (spec.at_line number (spec.stated library.now net.old (told said.now)) ≡ Ok net.new) }
+    ensures refused { IfErr result (λ e. e ≢ NetFault.Memory → spec.at_line number (spec.stated library.now net.old (told said.now)) ≡ Err e) }
     ensures fits { Fits library.now net.new.insts }
 {
-    match make_in_file(library, edit, net) {
+    match make_in_file(library, said, net) {
         Ok(()) => Ok(()),
         Err(StatementFault::Memory) => Err(NetFault::Memory),
         Err(fault) => Err(NetFault::Statement(number, fault)),
     }
 }
 
-/// Does a file's edit: a root that stands is not replaced.
-fn make_in_file(library: &Library, edit: &Edit, net: &mut Netlist) -> Result<(), StatementFault>
+/// Does what a line says, in the words of the line: a root that stands is not replaced.
+fn make_in_file(library: &Library, said: &Said<'_>, net: &mut Netlist) -> Result<(), StatementFault>
     requires { Fits library.now net.old.insts }
-    ensures ok { OnOk result (spec.stated library.now net.old edit.now ≡ Ok net.new) }
-    ensures refused { IfErr result (λ e. e ≢ StatementFault.Memory → spec.stated library.now net.old edit.now ≡ Err e) }
+    ensures ok { OnOk result (spec.stated library.now net.old (told said.now) ≡ Ok net.new) }
+    ensures refused { IfErr result (λ e. e ≢ StatementFault.Memory → spec.stated library.now net.old (told said.now) ≡ Err e) }
     ensures fits { Fits library.now net.new.insts }
 {
-    match edit {
-        Edit::Root(event) => net.set_root(event, false),
-        _ => net.make(library, edit),
+    match said {
+        Said::Net(name) => net.add_net(name),
+        Said::Const(name) => net.add_const(name),
+        Said::Inst(i) => net.add_inst_by_words(library, i.name, i.cell, &i.pins),
+        Said::DelInst(name) => net.del_inst(name),
+        Said::DelNet(name) => net.del_net(name),
+        Said::Move(m) => net.move_pin(library, m.inst, m.pin, m.net),
+        Said::Swap(s) => net.swap_cell(library, s.inst, s.cell),
+        Said::Delay(d) => net.set_delay(library, d.inst, d.pin, d.rise, d.fall),
+        Said::Tick(t) => net.set_tick_by_words(&t.source, &t.target, t.count),
+        Said::Root(event) => net.set_root_by_words(event, false),
+        Said::Fork(f) => {
+            net.add_fork_by_words(f.name, &f.root, &f.fast, &f.slow, f.margin, f.offset)
+        }
+        Said::DelFork(name) => net.del_fork(name),
     }
 }

@@ -5,6 +5,7 @@ mod edit_files;
 mod faults;
 mod files;
 mod laws;
+mod lent;
 mod lines;
 #[cfg(test)]
 mod tests;

@@ -1,5 +1,5 @@
 // The words of a line, lent one by one, and what a word says.
-ghost use Rattle.std.specs.Prelude.{◌≡◌, ◌<◌, [], ◌∷◌, length, position, IfSome, MatchResult};
+ghost use Rattle.std.specs.Prelude.{◌≡◌, ◌≢◌, ◌<◌, [], ◌∷◌, length, position, IfSome, MatchResult, None, Some};
 ghost use Rattle.cyc_text.specs.Number.{number_of};
 ghost use Rattle.cyc_text.specs.Words.{words_of};
 ghost use Rattle.netlist_reader.specs.EditLines as spec;
@@ -7,8 +7,8 @@ ghost use Rattle.netlist_reader.specs.Readings.{HasWord, Reads};
 
 use crate::faults::LineFault;
 pub(crate) use cyc_text::first_word;
-use cyc_text::{Text, read_number};
-use netlist_model::{EventName, PinNet, PinNets};
+use cyc_text::read_number;
+use netlist_model::{EventName, EventWord, PinWord};
 use std::alloc::Global;
 
 /// The first word of a line that must have one, and the line behind it.
@@ -48,15 +48,22 @@ fn rises(edge: u8) -> Result<bool, LineFault>
 
 /// An event word.
 #[tactic(auto, unfolding(crate::specs::EditLines::event_word))]
-pub fn event_word(alloc: Global, word: &[u8]) -> Result<EventName, LineFault>
+pub(crate) fn lent_event(word: &[u8]) -> Result<EventWord<'_>, LineFault>
     ensures { Reads result (spec.event_word word.now) }
 {
     let Some((edge, net)) = word.split_last() else {
         return Err(LineFault::Syntax);
     };
     let rising = rises(*edge)?;
-    let net = Text::of(alloc, net)?;
-    Ok(EventName { net, rising })
+    Ok(EventWord::of(net, rising))
+}
+
+/// An event word, with a text of its own.
+pub fn event_word(alloc: Global, word: &[u8]) -> Result<EventName, LineFault>
+    ensures { Reads result (spec.event_word word.now) }
+{
+    let event = lent_event(word)?;
+    Ok(event.own(alloc)?)
 }
 
 /// The place of the first '='.
@@ -69,27 +76,25 @@ fn equals_at(word: &[u8]) -> Option<usize>
 
 /// A pin word.
 #[tactic(auto, unfolding(crate::specs::EditLines::pin_word))]
-fn pin_word(alloc: Global, word: &[u8]) -> Result<PinNet, LineFault>
+fn pin_word(word: &[u8]) -> Result<PinWord<'_>, LineFault>
     ensures { Reads result (spec.pin_word word.now) }
 {
     let Some(at) = equals_at(word) else {
         return Err(LineFault::Syntax);
     };
-    let pin = Text::of(alloc, &word[..at])?;
-    let net = Text::of(alloc, &word[at + 1..])?;
-    Ok(PinNet { pin, net })
+    Ok(PinWord::of(&word[..at], &word[at + 1..]))
 }
 
 /// All words of a line as pin words.
 #[tactic(auto, unfolding(crate::specs::EditLines::pin_words))]
-pub(crate) fn pin_words(alloc: Global, line: &[u8]) -> Result<PinNets, LineFault>
-    ensures { Reads result (spec.pin_words [] (words_of line.now)) }
+pub(crate) fn pin_words(alloc: Global, line: &[u8]) -> Result<Vec<PinWord<'_>>, LineFault>
+    ensures { MatchResult result (λ v. spec.pin_words [] (words_of line.now) ≡ Some v.items) (λ e. e ≢ LineFault.Memory → spec.pin_words [] (words_of line.now) ≡ None) }
 {
     let mut pins = Vec::new(alloc);
     let mut rest = line;
     while let Some((word, more)) = first_word(rest) {
-        pins.push(pin_word(alloc, word)?)?;
+        pins.push(pin_word(word)?)?;
         rest = more;
     }
-    Ok(PinNets::of(pins))
+    Ok(pins)
 }

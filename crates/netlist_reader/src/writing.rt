@@ -23,8 +23,8 @@ pub fn write(alloc: Global, library: &Library, net: &Netlist) -> Result<Text, Al
     ensures text { IfOk result (λ t. t ≡ spec.canonical_text library.now net.now) }
     ensures read_back { IfOk result (λ t. netlist_of library.now t ≡ Ok net.now) }
 {
-    let _ = library.count();
-    let _ = net.net_count();
+    library.sound();
+    net.sound();
     written_netlists_are_read_back();
     let written = text_of(alloc, library, net)?;
     let text = Text::of(alloc, &written)?;
@@ -238,7 +238,7 @@ fn push_insts(text: &mut Vec<u8>, library: &Library, net: &Netlist) -> Result<()
     requires { Fits library.now net.now.insts }
     ensures { OnOk result (text.new.items ≡ text.old.items ++ lines_text (map (spec.inst_line library.now net.now) net.now.insts)) }
 {
-    let _ = net.net_count();
+    net.sound();
     for at in 0..net.inst_count() {
         let inst = net.inst(at);
         let cell = cell_of(library, inst);
@@ -311,7 +311,7 @@ fn push_block(text: &mut Vec<u8>, net: &Netlist, ticks: &[Tick]) -> Result<(), A
 fn push_ticks(text: &mut Vec<u8>, net: &Netlist) -> Result<(), AllocError>
     ensures { OnOk result (text.new.items ≡ text.old.items ++ lines_text (map (spec.tick_line net.now.nets) net.now.ticks)) }
 {
-    let _ = net.net_count();
+    net.sound();
     let blocks = net.tick_blocks();
     for block in blocks {
         push_block(text, net, block)?;
@@ -324,7 +324,7 @@ fn push_ticks(text: &mut Vec<u8>, net: &Netlist) -> Result<(), AllocError>
 fn push_root(text: &mut Vec<u8>, net: &Netlist) -> Result<(), AllocError>
     ensures { OnOk result (text.new.items ≡ text.old.items ++ lines_text (spec.root_lines net.now.nets net.now.root)) }
 {
-    let _ = net.net_count();
+    net.sound();
     let Some(root) = net.root() else {
         return Ok(());
     };
@@ -337,7 +337,7 @@ fn push_root(text: &mut Vec<u8>, net: &Netlist) -> Result<(), AllocError>
 fn push_forks(text: &mut Vec<u8>, net: &Netlist) -> Result<(), AllocError>
     ensures { OnOk result (text.new.items ≡ text.old.items ++ lines_text (map (spec.fork_line net.now.nets) net.now.forks)) }
 {
-    let _ = net.net_count();
+    net.sound();
     for at in 0..net.fork_count() {
         let fork = net.fork(at);
         push_fork(text, net, fork)?;

@@ -66,9 +66,6 @@ feasible_in a top bottom s times t b is h =
 pub ends_in : (a : About) (s : EventRules) → s ≡ system_of a → EndsBelow s.events s.rules → EndsBelow a.events a.rules
 ends_in a s is h = subst (λ (x : EventRules). EndsBelow x.events x.rules) is h
 
-pub no_gain_in : (a : About) (top bottom : ℕ) → top ≡ a.top → bottom ≡ a.bottom → HasNoGain top bottom a.rules → HasNoGain a.top a.bottom a.rules
-no_gain_in a top bottom t b h = subst (λ (x : ℕ). HasNoGain x a.bottom a.rules) t (subst (λ (x : ℕ). HasNoGain top x a.rules) b h)
-
 -- what is known bounds them, so the numbers that were read do
 pub covers_read : (a : About) (begun : List ℤ) (steps rounds : ℕ) (known times : List ℤ) (now : ℕ) → Done a begun steps rounds known times now → 0 < rounds → Covers a.top a.bottom a.rules a.root rounds times
 covers_read a begun steps rounds known times now d some = subst (λ (x : List ℤ). Covers a.top a.bottom a.rules a.root rounds x) (d.read some) d.covers

@@ -105,8 +105,7 @@ impl<'g, G: Gate + Sync> Rounds<'g, G> {
         feasible_numbers_bound_walks();
         rounds_end();
         attained_bounds_are_arrivals();
-        let _root = words.root();
-        let _period = words.period();
+        words.sound();
         let events = words.system().events();
         'rounds: for _ in 0..events {
             if self.settles(rt, words, seat, steps, times) {

@@ -7,7 +7,7 @@ use Rattle.event_expand.proofs.expansion.expand.Goals as goal
 pub build-requires : goal.build-requires
 build-requires g c =
     let rules = joined c.args.library.now c.args.net.now c.in_ok-pieces.pieces.items c.deref.result.now c.in_ok-rules.rules.items c.deref.ensures.value c.in_ok-pieces.ensures c.in_ok-rules.ensures.ok in
-    expanded_is_system c.args.library.now c.args.net.now _ _ c.count.ensures.sound c.net_count.ensures.sound c.requires.few
+    expanded_is_system c.args.library.now c.args.net.now _ _ c.sound.ensures c.net_count.ensures.sound c.requires.few
     (ap (λ n. 2 * n) c.net_count.ensures.count) (c.deref-2.ensures.value ∙ rules)
 
 pub returns : goal.returns

@@ -8,7 +8,7 @@ pub cell_of-cell-requires : goal.cell_of-cell-requires
 cell_of-cell-requires c = of_library c.args.library.now c.args.net.now.insts c.loop-at.at _ c.requires c.inst-inst.ensures
 
 pub push_inst-requires-clause-each : goal.push_inst-requires-clause-each
-push_inst-requires-clause-each c = pins_stand c.args.net.now c.loop-at.at _ c.net_count.ensures.sound c.inst-inst.ensures
+push_inst-requires-clause-each c = pins_stand c.args.net.now c.loop-at.at _ c.sound.ensures c.inst-inst.ensures
 
 pub loop-at-preserved : goal.loop-at-preserved
 loop-at-preserved c =

@@ -10,7 +10,7 @@ use Rattle.netlist_reader.proofs.writing.push_ticks.Goals as goal
 pub push_block-requires : goal.push_block-requires
 push_block-requires c =
     rw c.deref.ensures.value (in_block (IsTick (length c.args.net.now.nets)) c.tick_blocks-blocks.result.now c.loop-block.block-index c.block-item.result c.loop-block-test.true c.block-item.is
-    (rw c.tick_blocks-blocks.ensures c.net_count.ensures.sound.ticks))
+    (rw c.tick_blocks-blocks.ensures c.sound.ensures.ticks))
 
 pub loop-block-preserved : goal.loop-block-preserved
 loop-block-preserved c =

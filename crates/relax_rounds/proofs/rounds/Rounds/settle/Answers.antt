@@ -4,7 +4,7 @@ use Rattle.rule_system.proofs.Sums.{ends_below}
 use Rattle.rule_system.specs.Bounds.{EventRules}
 use Rattle.rule_system.specs.Weights.{time_of}
 use Rattle.arrival_words.specs.About.{About}
-use Rattle.relax_rounds.proofs.Rounding.{begun_with, one_round, feasible_covers, not_below, ends_in, no_gain_in, covers_read}
+use Rattle.relax_rounds.proofs.Rounding.{begun_with, one_round, feasible_covers, not_below, ends_in, covers_read}
 use Rattle.relax_rounds.proofs.Joining.{sinks-trans}
 use Rattle.relax_rounds.proofs.rounds.Rounds.settle.Goals as goal
 
@@ -37,8 +37,7 @@ returns-then-settles-clause-arrivals g c =
 pub returns-clause-arrivals : goal.returns-clause-arrivals
 returns-clause-arrivals g c =
     let a : About = c.args.words.now.about in
-    let event = c.root-root.ensures.event in
-    let same = c.root-root.ensures.same in
+    let event = c.sound.ensures.root in
     let e : c.system.result.now.events ≡ a.events = ap (λ (s : EventRules). s.events) c.system.ensures in
     let root : a.root < a.events = omega arith in
     let n : c.rounds.counter ≡ a.events = omega arith in
@@ -47,5 +46,5 @@ returns-clause-arrivals g c =
     c.attained_bounds_are_arrivals.ensures a.top a.bottom a.events a.rules a.root c.rounds.times (c.rounds.invariant.1.attained some)
     (c.rounds_end.ensures a.top a.bottom a.events a.rules a.root c.rounds.counter c.rounds.times
     (ends_in a _ c.system.ensures (ends_below _ _ c.events-events.ensures.system))
-    (no_gain_in a _ _ c.period-period.ensures.top c.period-period.ensures.bottom c.period-period.ensures.no_gain)
+    c.sound.ensures.no_gain
     root enough (covers_read a _ _ _ _ _ _ c.rounds.invariant.1 some))

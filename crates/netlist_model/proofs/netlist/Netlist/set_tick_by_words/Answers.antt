@@ -2,7 +2,7 @@ use Rattle.std.proofs.Common.{◌≡◌, ◌<◌, ◌*◌, length, false, is_som
 use Rattle.netlist_model.specs.Circuit.{Circuit, tick_of}
 use Rattle.netlist_model.specs.Sound.{Fits}
 use Rattle.netlist_model.proofs.Soundness.{tick_added, tick_ended}
-use Rattle.netlist_model.proofs.netlist.Netlist.set_tick.Goals as goal
+use Rattle.netlist_model.proofs.netlist.Netlist.set_tick_by_words.Goals as goal
 
 pub invariant_of-self : goal.invariant_of-self
 invariant_of-self c = rw c.remove.ensures (tick_ended _ _ c.self.invariant)

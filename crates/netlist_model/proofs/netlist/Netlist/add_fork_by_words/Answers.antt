@@ -6,7 +6,7 @@ use Rattle.netlist_model.specs.Circuit.{Circuit, roots_of}
 use Rattle.netlist_model.specs.Sound.{Fits}
 use Rattle.netlist_model.specs.declared.parts.Fork.{Fork}
 use Rattle.netlist_model.proofs.Soundness.{fork_added, roots_fit}
-use Rattle.netlist_model.proofs.netlist.Netlist.add_fork.Goals as goal
+use Rattle.netlist_model.proofs.netlist.Netlist.add_fork_by_words.Goals as goal
 
 pub returns-in_err-push-clause-fits : goal.returns-in_err-push-clause-fits
 returns-in_err-push-clause-fits c = λ library h. subst (λ (n : Circuit). Fits library n.insts) (sym c.self.view_is) h

@@ -5,7 +5,7 @@ use Rattle.netlist_model.specs.Sound.{IsInstance, Fits}
 use Rattle.netlist_model.specs.declared.parts.Instance.{Instance}
 use Rattle.netlist_model.proofs.InstanceLemmas.{fits_push}
 use Rattle.netlist_model.proofs.Soundness.{inst_added}
-use Rattle.netlist_model.proofs.netlist.Netlist.add_inst.Goals as goal
+use Rattle.netlist_model.proofs.netlist.Netlist.add_inst_by_words.Goals as goal
 
 pub returns-in_err-push-clause-fits : goal.returns-in_err-push-clause-fits
 returns-in_err-push-clause-fits c = rw c.in_err-push.ensures.err (subst (λ (n : Circuit). Fits c.args.library.now n.insts) (sym c.self.view_is) c.requires)

@@ -1,6 +1,0 @@
-use Rattle.std.proofs.Common.{rules}
-use Rattle.netlist_reader.proofs.EdgeLemmas.{event_named}
-use Rattle.netlist_reader.proofs.words.event_word.Goals as goal
-
-pub returns : goal.returns
-returns c = event_named c.args.word.now c.in-Some.net.now c.in_ok-net.net c.in-Some.edge.now c.in_ok-rising.rising (search rules) (search rules) (search rules)
