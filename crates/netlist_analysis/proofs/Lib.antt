@@ -1,3 +1,6 @@
+mod Deciding
 mod ForkLemmas
+mod Netlists
 mod OneFinding
 mod SystemFaults
+mod Tellings

@@ -2,6 +2,7 @@
 use Rattle.std.specs.Prelude.{◌≡◌, ◌<◌, ℕ, List, All, map, Some, None, Result, Ok, Err}
 use Rattle.cell_arcs.specs.declared.cells.Cell.{Cell}
 use Rattle.netlist_model.specs.Circuit.{Circuit}
+use Rattle.netlist_model.specs.Sound.{IsNetlist}
 use Rattle.netlist_model.specs.Whole.{whole_of}
 use Rattle.rule_system.specs.Rules.{source_of}
 use Rattle.liveness_check.specs.Liveness.{IsFault}
@@ -60,3 +61,7 @@ Finding = Result Analysis NetlistFault
 abbrev pub IsFinding : List Cell → Circuit → Finding → Type 0
 IsFinding library c (Ok analysis) = IsNetlistAnalysis library c analysis
 IsFinding library c (Err fault) = IsNetlistFault library c fault
+
+-- what is told of each netlist is what its analysis finds
+abbrev pub IsTelling : List Cell → (Circuit → Finding) → Type 0
+IsTelling library tell = (c : Circuit) → IsNetlist c → IsFinding library c (tell c)

@@ -85,7 +85,7 @@ fn analyse_whole<R: Threads + Sync, M: ArrivalMaker>(
     ensures refused { IfErr result (λ e. e ≢ NetlistFault.Memory → IsFinding library.now netlist.now (Err e)) }
     ensures events { IfErr result (NamesBelow (2 * length netlist.now.nets)) }
 {
-    let _nets = netlist.net_count();
+    netlist.sound();
     let system = expand(rt, alloc, library, netlist)?;
     let forks = forks_of(alloc, netlist)?;
     match analyse(rt, alloc, &system, root, &forks, maker) {

@@ -3,4 +3,4 @@ use Rattle.netlist_analysis.proofs.analysed.analyse_whole.Goals as goal
 
 pub analyse-requires-clause-forks : goal.analyse-requires-clause-forks
 analyse-requires-clause-forks g c κs within =
-    rw (c.deref.ensures.value, c.in_ok-forks.ensures, c.in_ok-system.ensures) (forks_within c.args.netlist.now c.net_count-nets.ensures.sound)
+    rw (c.deref.ensures.value, c.in_ok-forks.ensures, c.in_ok-system.ensures) (forks_within c.args.netlist.now c.sound.ensures)
