@@ -6,3 +6,5 @@ pub mod FaultLines
 pub mod Sources
 pub mod NetlistLines
 pub mod BenchText
+pub mod Replies
+pub mod ServeText

@@ -125,7 +125,7 @@ fn push_payload(text: &mut Vec<u8>, fault: StatementFault) -> Result<(), AllocEr
 }
 
 /// Adds why a statement is refused.
-fn push_statement(text: &mut Vec<u8>, fault: StatementFault) -> Result<(), AllocError>
+pub(crate) fn push_statement(text: &mut Vec<u8>, fault: StatementFault) -> Result<(), AllocError>
     ensures { OnOk result (text.new.items ≡ text.old.items ++ spec.statement_text fault) }
 {
     text.extend_from_slice(statement_code(fault).as_bytes())?;
@@ -133,7 +133,7 @@ fn push_statement(text: &mut Vec<u8>, fault: StatementFault) -> Result<(), Alloc
 }
 
 /// Adds a code and a number.
-fn push_number(text: &mut Vec<u8>, code: &str, number: u64) -> Result<(), AllocError>
+pub(crate) fn push_number(text: &mut Vec<u8>, code: &str, number: u64) -> Result<(), AllocError>
     ensures { OnOk result (text.new.items ≡ text.old.items ++ code.now ++ decimal number) }
 {
     text.extend_from_slice(code.as_bytes())?;
@@ -141,7 +141,7 @@ fn push_number(text: &mut Vec<u8>, code: &str, number: u64) -> Result<(), AllocE
 }
 
 /// Adds a code and a name.
-fn push_name(text: &mut Vec<u8>, code: &str, name: &Text) -> Result<(), AllocError>
+pub(crate) fn push_name(text: &mut Vec<u8>, code: &str, name: &Text) -> Result<(), AllocError>
     ensures { OnOk result (text.new.items ≡ text.old.items ++ code.now ++ name.now) }
 {
     text.extend_from_slice(code.as_bytes())?;
@@ -185,7 +185,7 @@ fn push_syntax(text: &mut Vec<u8>, code: &str, line: u64) -> Result<(), AllocErr
 }
 
 /// Adds a code and a position, and why the statement that stands there is refused.
-fn push_line(
+pub(crate) fn push_line(
     text: &mut Vec<u8>,
     code: &str,
     position: u64,

@@ -1,5 +1,5 @@
-//! The texts that the program writes: the rules of a system, the report of an analysis, the result of a ring, and the line of a
-//! fault.
+//! The texts that the program writes: the rules of a system, the report of an analysis, the result of a ring, the line of a fault, and
+//! the replies of sessions.
 //!
 //! The promise: each text is that of its definition, byte for byte. The definitions stand in `specs/`, a file for each text.
 #![tactic(auto)]
@@ -9,8 +9,12 @@ mod fault_lines;
 mod faults;
 mod netlist_lines;
 mod pieces;
+mod replies;
+#[cfg(test)]
+mod reply_tests;
 mod reports;
 mod rules;
+mod serves;
 #[cfg(test)]
 mod tests;
 
@@ -20,3 +24,5 @@ pub use faults::{FaultLine, Names, Source};
 pub use netlist_lines::netlist_line;
 pub use reports::report_text;
 pub use rules::rules_text;
+pub use serves::serve_text;
+pub use session_machine::{Refusal, Replies, Reply};

@@ -117,7 +117,7 @@ fn push_arrivals(
     requires { length arrivals.now ≡ 2 * length net.now.nets }
     ensures { OnOk result (text.new.items ≡ text.old.items ++ spec.arrival_lines net.now.nets bottom 0 arrivals.now) }
 {
-    let _ = net.net_count();
+    net.sound();
     for (event, arrival) in arrivals.iter().enumerate() {
         push_arrival(text, net, event as u32, *arrival, bottom)?;
     }

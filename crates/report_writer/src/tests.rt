@@ -37,3 +37,24 @@ fn faults_and_their_lines(rt: HostRuntime) -> Result<(), Fail> {
     assert!(rt; dead_line(alloc)?);
     Ok(())
 }
+
+#[test]
+fn scripts_and_their_lines(rt: HostRuntime) -> Result<(), Fail> {
+    for (fault, wanted) in [
+        (
+            FaultLine::ScriptSyntax(2, 7),
+            "fault: script 2 line 7 syntax\n",
+        ),
+        (
+            FaultLine::ScriptTooMany(1, Limit::Lines),
+            "fault: script 1 P2 lines\n",
+        ),
+        (
+            FaultLine::ScriptTooMany(3, Limit::Reports),
+            "fault: script 3 P2 reports\n",
+        ),
+    ] {
+        assert!(rt; is_line(rt.alloc(), fault, wanted)?, "{wanted}");
+    }
+    Ok(())
+}

@@ -20,7 +20,7 @@ pub use laws::{
     local_calls_publish_nothing, made_versions_have_netlists, netlists_stay, order_is_followed,
     refusals_change_nothing, sessions_are_one_order, sessions_make_each_call, versions_are_made,
 };
-pub use replies::{Refusal, Reply};
+pub use replies::{Refusal, Replies, Reply};
 pub use worked_scripts::{
     first_refusal_is_told, queries_are_of_the_pin, refused_rebase_keeps_the_draft,
     sessions_take_turns, stale_is_told_last,

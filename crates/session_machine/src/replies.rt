@@ -2,6 +2,7 @@
 use cyc_num::Ratio;
 use cyc_text::Text;
 use netlist_model::StatementFault;
+use std::marker::Model;
 
 /// The reply to a call. Times are scaled by the bottom of the period.
 #[derive(Debug, Drop)]
@@ -69,4 +70,37 @@ pub enum Refusal {
     NoEvent,
     /// The version has no such fork.
     NoFork,
+}
+
+/// The replies to the calls of a session, in order.
+#[derive(Debug, Drop)]
+pub struct Replies {
+    items: Vec<Reply>,
+}
+
+impl Model for Replies {
+    ghost use Rattle.std.specs.Prelude.{List};
+    ghost use Rattle.session_machine.specs.declared.replies.Reply.{Reply};
+
+    ghost Value = { List Reply };
+
+    ghost view = { λ r. r.items.items };
+}
+
+impl Replies {
+    ghost use Rattle.std.specs.Prelude.{◌≡◌};
+
+    /// The list of these replies. It takes no memory.
+    pub fn of(items: Vec<Reply>) -> Replies
+        ensures { result ≡ items.items }
+    {
+        Replies { items }
+    }
+
+    /// The replies.
+    pub fn list(&self) -> &[Reply]
+        ensures { result.now ≡ self.now }
+    {
+        self.items.as_slice()
+    }
 }

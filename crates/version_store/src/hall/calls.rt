@@ -41,6 +41,13 @@ impl<R: Follows + Drop> Hall<R> {
         self.rows.len() as u32
     }
 
+    /// Makes known that each row follows the row before it. It does nothing.
+    pub fn is_chain(&self)
+        ensures { Chain R.follows self.now.base (rows_of self.now.items) }
+    {
+        let _ = &self.rows;
+    }
+
     /// A handle on the newest row.
     ///
     /// # Errors

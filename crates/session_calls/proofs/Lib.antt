@@ -1,0 +1,5 @@
+mod Rows
+mod Alone
+mod Acts
+mod Drafts
+mod Stops

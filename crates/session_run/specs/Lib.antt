@@ -1,0 +1,4 @@
+pub mod Items
+pub mod Going
+pub mod Playing
+pub mod InTurn
