@@ -6,15 +6,17 @@ use Rattle.netlist_model.specs.Circuit.{Circuit}
 use Rattle.netlist_model.specs.declared.faults.WholeFault.{WholeFault}
 use Rattle.netlist_model.specs.declared.faults.WholeFault.TheVariants as whole
 use Rattle.analysis.specs.declared.analyses.Analysis.{Analysis}
-use Rattle.netlist_analysis.specs.Findings.{IsFinding, IsNetlistFault}
+use Rattle.netlist_analysis.specs.Findings.{IsFinding, IsNetlistAnalysis, IsNetlistFault}
 use Rattle.netlist_analysis.specs.declared.faults.NetlistFault.{NetlistFault}
 use Rattle.netlist_analysis.specs.declared.faults.NetlistFault.TheVariants as net
+use Rattle.pinned_reader.specs.Rows.{RowState, IsRow}
+use Rattle.query_replies.specs.Served.{base_of}
 use Rattle.report_writer.specs.NetlistLines.{netlist_line, whole_line}
 use Rattle.report_writer.specs.declared.faults.FaultLine.{FaultLine}
 use Rattle.engine.specs.declared.faults.Fault.{Fault}
 use Rattle.engine.specs.declared.faults.Fault.TheVariants.{Line, Memory}
 use Rattle.engine.specs.Courses.{Course, IsRefusal}
-use Rattle.engine.specs.Files.{accepted, analysed}
+use Rattle.engine.specs.Files.{accepted, analysed, base_analysed}
 use Rattle.engine.specs.Steps.{Passes, Stops}
 
 -- a value that was read is passed
@@ -59,3 +61,20 @@ analysis_stops library c fault (Line line) told found seen =
     let line_is = told other in
     let is : IsNetlistFault library c fault = found line_is.0 in
     record { at = λ next. inr (Err fault, is, (fault_is library c fault is, ap Err line_is.1)) }
+
+-- sessions start from the row of a netlist that was analysed
+pub base_passes : {library : List Cell} {c : Circuit} {row : RowState} → row.library ≡ library → row.netlist ≡ c → IsRow row → (seen : Seen)
+    → Passes seen seen (base_analysed library c) (base_of row.library row.netlist)
+base_passes {library = library} {c = c} {row = row} same_library same_netlist is seen = record {
+  to = λ next. record {
+    go = λ end later answer comes.
+        let right : IsNetlistAnalysis library c row.analysis = rw (same_library, same_netlist) at is.analysis in
+        (Ok row.analysis, right, rw (same_library, same_netlist) at comes);
+  };
+}
+
+-- and from none where it has no analysis
+pub base_stops : (library : List Cell) (c : Circuit) (fault : NetlistFault) (result : Fault)
+    → (result ≢ Memory → (fault ≢ net.Memory) × (result ≡ Line (netlist_line c fault))) → (fault ≢ net.Memory → IsFinding library c (Err fault))
+    → (seen : Seen) → Stops seen seen (base_analysed library c) result
+base_stops library c fault result told found seen = record { at = λ next. (analysis_stops library c fault result told found seen).at (λ analysis. next (base_of library c)) }

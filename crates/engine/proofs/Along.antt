@@ -7,8 +7,8 @@ use Rattle.engine.specs.declared.faults.Fault.{Fault}
 use Rattle.engine.specs.declared.faults.Fault.TheVariants.{Memory}
 use Rattle.cyc_port.specs.Seen.{Seen, Later}
 use Rattle.engine.specs.Answers.{Answer}
-use Rattle.engine.specs.Courses.{Course, Writes, Refuses, Opens, Analyses, IsUnread, Comes}
-use Rattle.engine.specs.Steps.{MayEnd, Reaches, Passes, Stops, IsTextOr}
+use Rattle.engine.specs.Courses.{Course, Writes, Refuses, Serves, Opens, Analyses, IsUnread, Comes}
+use Rattle.engine.specs.Steps.{MayEnd, Reaches, Passes, Stops}
 
 pub later_refl : (s : Seen) → Later s s
 later_refl s = record { files = refl; faults = λ name. omega arith; long_reads = λ name. omega arith }
@@ -40,6 +40,7 @@ unread_earlier a b c name answer later (inr (same, rose, long)) =
 pub comes_earlier : (a b c : Seen) (answer : Answer) → Later a b → (course : Course) → Comes b c course answer → Comes a c course answer
 comes_earlier a b c answer later (Writes text) comes = comes
 comes_earlier a b c answer later (Refuses line) comes = comes
+comes_earlier a b c answer later (Serves library d scripts) comes = comes
 comes_earlier a b c answer later (Opens name next) (inl unread) = inl (unread_earlier a b c name answer later unread)
 comes_earlier a b c answer later (Opens name next) (inr (bytes, file, rest)) =
     inr (bytes, file_earlier a.files b.files name bytes later.files file, comes_earlier a b c answer later (next bytes) rest)
@@ -66,13 +67,17 @@ pub gives_up : {A : Type 0} {b m n : Seen} {course : Course} {way : (A → Cours
     → Reaches b m course (way cont) → Later m n → Stops m n way fault → MayEnd b n course (Err fault)
 gives_up {n = n} cont reached later stopped = ends_with n reached later (stopped.at cont)
 
--- one step after another
+-- one step after another; what the second gave is seen by a function
+pub seen_then : {A B C : Type 0} {b m n : Seen} {way : (A → Course) → Course} {value : A} (view : C → B) (then : A → (B → Course) → Course) (r : Result C Fault)
+    → Passes b m way value → Later m n → IfOk r (λ x. Passes m n (then value) (view x)) → IfOk r (λ x. Passes b n (λ next. way (λ a. then a next)) (view x))
+seen_then view then (Ok v) first later second = record { to = λ next. goes_on next (first.to (λ a. then a next)) later second }
+seen_then view then (Err e) first later second = tt
+
 pub ok_then : {A B : Type 0} {b m n : Seen} {way : (A → Course) → Course} {value : A} (then : A → (B → Course) → Course) (r : Result B Fault)
     → Passes b m way value → Later m n → IfOk r (Passes m n (then value)) → IfOk r (Passes b n (λ next. way (λ a. then a next)))
-ok_then then (Ok v) first later second = record { to = λ next. goes_on next (first.to (λ a. then a next)) later second }
-ok_then then (Err e) first later second = tt
+ok_then then r first later second = seen_then (λ v. v) then r first later second
 
-pub err_then : {A B : Type 0} {b m n : Seen} {way : (A → Course) → Course} {value : A} (then : A → (B → Course) → Course) (r : Result B Fault)
+pub err_then : {A B C : Type 0} {b m n : Seen} {way : (A → Course) → Course} {value : A} (then : A → (B → Course) → Course) (r : Result C Fault)
     → Passes b m way value → Later m n → IfErr r (Stops m n (then value)) → IfErr r (Stops b n (λ next. way (λ a. then a next)))
 err_then then (Ok v) first later second = tt
 err_then then (Err e) first later second = record { at = λ next. gives_up next (first.to (λ a. then a next)) later second }
@@ -92,14 +97,3 @@ quits cont (Err f) reached later stopped is = rw is (gives_up cont reached later
 pub wants_end : (b n : Seen) (course : Course) (r : Answer) → IsErrAnd r (λ f. f ≡ Memory) → MayEnd b n course r
 wants_end b n course (Ok v) is = absurd is
 wants_end b n course (Err f) is = inl (ap Err is)
-
--- the last step
-pub text_ends : {b n : Seen} {course : Course} {text : List ℕ} (answer : Answer) → Reaches b n course (Writes text) → IsTextOr text answer → MayEnd b n course answer
-text_ends {n = n} answer reached is = ends_with n reached (later_refl n) is
-
--- the last step is a way whose value is the text
-pub way_ends : {b m n : Seen} {course : Course} (way : (List ℕ → Course) → Course) (r : Answer)
-    → Reaches b m course (way (λ text. Writes text)) → Later m n → IfOk r (Passes m n way) → IfErr r (Stops m n way) → MayEnd b n course r
-way_ends {n = n} way (Ok text) reached later passed stopped =
-    inr ((goes_on (λ t. Writes t) reached later passed).go n (later_refl n) (Ok text) refl)
-way_ends way (Err f) reached later passed stopped = gives_up (λ t. Writes t) reached later stopped

@@ -1,5 +1,5 @@
 -- What an answer that may come is over told files.
-use Rattle.std.proofs.Common.{◌≡◌, ◌≤◌, ◌<◌, ℕ, List, length, Option, Some, None, refl, sym, ◌∙◌, inl, inr, arith}
+use Rattle.std.proofs.Common.{◌≡◌, ◌≤◌, ◌<◌, ℕ, List, [], length, Option, Some, None, refl, sym, ◌∙◌, inl, inr, arith}
 use Rattle.std.specs.Prelude.{◌⊎◌, IfSome, IsSomeAnd}
 use Rattle.std.specs.FinMap as map
 use Rattle.cyc_port.specs.Counts.{Rose}
@@ -8,14 +8,15 @@ use Rattle.std.proofs.lemmas.Bool.{cases_lt}
 use Rattle.std.specs.Io.KnownBytes.{Appends, Keeps}
 use Rattle.cyc_port.specs.Written.{AppendsFront}
 use Rattle.engine.specs.Commands.{course_of}
-use Rattle.engine.specs.Answers.{Answer, told, source_status, status_of, text_of}
+use Rattle.engine.specs.Answers.{Answer, told, source_status, status_of, text_of, order_of}
+use Rattle.engine.specs.declared.outcome.Outcome.{Outcome}
 use Rattle.engine.specs.Runs.{Run, IsAlong, MayGive, May, IsOfCourse, IsAnswer, HadNoFault, IsWritten, IsRun}
 use Rattle.cyc_port.specs.Seen.{Seen}
 use Rattle.report_writer.specs.Sources.{source_of}
 use Rattle.report_writer.specs.declared.faults.Source.{Source}
 use Rattle.report_writer.specs.declared.faults.Source.TheVariants as source
 use Rattle.report_writer.specs.declared.faults.FaultLine.TheVariants as line
-use Rattle.engine.specs.Courses.{Course, Writes, Refuses, Opens, Analyses, OfContent, IsDue, IsVerdict, IsFileWord, Comes}
+use Rattle.engine.specs.Courses.{Course, Writes, Refuses, Serves, Opens, Analyses, OfContent, IsDue, IsVerdict, IsFileWord, Comes}
 
 -- a failed read of a file word
 pub record IsReadFault (before now : Seen) (course : Course) (answer : Answer) : Type 0 where
@@ -34,6 +35,7 @@ pub told_comes : (files : Files) (before now : Seen) (answer : Answer) → befor
     → IsReadFault before now course answer ⊎ IsVerdict files course answer
 told_comes files before now answer are (Writes text) comes = inr comes
 told_comes files before now answer are (Refuses refusal) comes = inr comes
+told_comes files before now answer are (Serves library c scripts) comes = inr comes
 told_comes files before now answer are (Opens name next) (inl (inl (same, rose))) =
     inl (record { name = name; same = same; word = inl refl; rose = rose })
 told_comes files before now answer are (Opens name next) (inl (inr (same, rose, long))) =
@@ -82,6 +84,7 @@ content_not_usage source.Reading is two = is
 not_usage : (before now : Seen) (answer : Answer) (course : Course) → Comes before now course answer → status_of answer ≡ 2 → ⊥
 not_usage before now answer (Writes text) same two = let zero : 0 ≡ 2 = rw same at two in absurd (omega (arith, zero))
 not_usage before now answer (Refuses refusal) (is, same) two = content_not_usage (source_of refusal) is.0 (rw same at two)
+not_usage before now answer (Serves library c scripts) served two = let zero : 0 ≡ 2 = rw served.is at two in absurd (omega (arith, zero))
 not_usage before now answer (Opens name next) (inl (inl (same, rose))) two = let six : 6 ≡ 2 = rw same at two in absurd (omega (arith, six))
 not_usage before now answer (Opens name next) (inl (inr (same, rose, long))) two = let six : 6 ≡ 2 = rw same at two in absurd (omega (arith, six))
 not_usage before now answer (Opens name next) (inr (bytes, file, rest)) two = not_usage before now answer (next bytes) rest two
@@ -104,54 +107,56 @@ status_cases status known = by (cases_lt status 7) (cases_lt status 8)
     by (inr seven) (inl below) = inr (inl (omega arith))
     by (inr seven) (inr eight) = inr (inr (omega arith))
 
-module _ (run : Run) (answer : Answer) (status : ℕ) (may : May run answer) (known : status ≤ 8)
-    (whole : status < 7 → (status ≡ status_of answer) × Appends run.sink_before.written run.sink_now.written (text_of answer)) where
-  written : (files : Files) → status < 7 → IsAnswer run.words files answer → IsWritten run status files
-  written files low is = record { answer = answer; is_answer = is; has_status = sym (whole low).0; wrote = (whole low).1 }
+module _ (run : Run) (answer : Answer) (outcome : Outcome) (may : May run answer) (known : outcome.status ≤ 8)
+    (whole : outcome.status < 7 → (outcome.status ≡ status_of answer) × Appends run.sink_before.written run.sink_now.written (text_of answer))
+    (order : outcome.status < 8 → outcome.order ≡ order_of answer) where
+  written : (files : Files) → outcome.status < 7 → IsAnswer run.words files answer → IsWritten run outcome files
+  written files low is = record { answer = answer; is_answer = is; has_status = sym (whole low).0; has_order = sym (order (omega (arith, low))); wrote = (whole low).1 }
 
-  complete : HadNoFault run → (status ≡ 7 → ⊥) → (o : Option Files) → run.before.files ≡ o → IfSome o (λ files. (status ≡ 8) ⊎ IsWritten run status files)
+  complete : HadNoFault run → (outcome.status ≡ 7 → ⊥) → (o : Option Files) → run.before.files ≡ o → IfSome o (λ files. (outcome.status ≡ 8) ⊎ IsWritten run outcome files)
   complete no_fault uncut None are = tt
-  complete no_fault uncut (Some files) are = by (status_cases status known) may
+  complete no_fault uncut (Some files) are = by (status_cases outcome.status known) may
     where
-      from : status < 7 → IsFailedWord run.before run.now answer (course_of run.words) ⊎ IsAnswer run.words files answer → (status ≡ 8) ⊎ IsWritten run status files
+      from : outcome.status < 7 → IsFailedWord run.before run.now answer (course_of run.words) ⊎ IsAnswer run.words files answer → (outcome.status ≡ 8) ⊎ IsWritten run outcome files
       from low (inl failed) = absurd (no_failed_word run.before run.now answer (course_of run.words) no_fault failed)
       from low (inr is) = inr (written files low is)
 
-      by : (status < 7) ⊎ ((status ≡ 7) ⊎ (status ≡ 8)) → May run answer → (status ≡ 8) ⊎ IsWritten run status files
+      by : (outcome.status < 7) ⊎ ((outcome.status ≡ 7) ⊎ (outcome.status ≡ 8)) → May run answer → (outcome.status ≡ 8) ⊎ IsWritten run outcome files
       by (inr (inl seven)) m = absurd (uncut seven)
       by (inr (inr eight)) m = inl eight
-      by (inl low) (inl memory) = let same : status ≡ 8 = rw memory at (whole low).0 in inl same
+      by (inl low) (inl memory) = let same : outcome.status ≡ 8 = rw memory at (whole low).0 in inl same
       by (inl low) (inr along) = from low (along_told files run.before run.now answer are (course_of run.words) along)
 
-  done : status < 6 → (o : Option Files) → run.before.files ≡ o → IfSome o (IsWritten run status)
+  done : outcome.status < 6 → (o : Option Files) → run.before.files ≡ o → IfSome o (IsWritten run outcome)
   done below None are = tt
   done below (Some files) are = by may
     where
-      low : status < 7
+      low : outcome.status < 7
       low = omega (arith, below)
 
-      from : IsFailedWord run.before run.now answer (course_of run.words) ⊎ IsAnswer run.words files answer → IsWritten run status files
+      from : IsFailedWord run.before run.now answer (course_of run.words) ⊎ IsAnswer run.words files answer → IsWritten run outcome files
       from (inl failed) = let six = failed_is_6 run.before run.now answer (course_of run.words) failed in let same = (whole low).0 in absurd (omega (arith, below, six, same))
       from (inr is) = written files low is
 
-      by : May run answer → IsWritten run status files
-      by (inl memory) = let same : status ≡ 8 = rw memory at (whole low).0 in absurd (omega (arith, below, same))
+      by : May run answer → IsWritten run outcome files
+      by (inl memory) = let same : outcome.status ≡ 8 = rw memory at (whole low).0 in absurd (omega (arith, below, same))
       by (inr along) = from (along_told files run.before run.now answer are (course_of run.words) along)
 
-  refused_words : course_of run.words ≡ None → (status ≡ 2) ⊎ ((status ≡ 7) ⊎ (status ≡ 8))
-  refused_words none = by (status_cases status known) (none_is_usage run.before run.now answer (course_of run.words) none may)
+  refused_words : course_of run.words ≡ None → (outcome.status ≡ 2) ⊎ ((outcome.status ≡ 7) ⊎ (outcome.status ≡ 8))
+  refused_words none = by (status_cases outcome.status known) (none_is_usage run.before run.now answer (course_of run.words) none may)
     where
-      by : (status < 7) ⊎ ((status ≡ 7) ⊎ (status ≡ 8)) → (status_of answer ≡ 2) ⊎ (status_of answer ≡ 8) → (status ≡ 2) ⊎ ((status ≡ 7) ⊎ (status ≡ 8))
+      by : (outcome.status < 7) ⊎ ((outcome.status ≡ 7) ⊎ (outcome.status ≡ 8)) → (status_of answer ≡ 2) ⊎ (status_of answer ≡ 8) → (outcome.status ≡ 2) ⊎ ((outcome.status ≡ 7) ⊎ (outcome.status ≡ 8))
       by (inr rest) is = inr rest
       by (inl low) (inl two) = inl ((whole low).0 ∙ two)
       by (inl low) (inr eight) = inr (inr ((whole low).0 ∙ eight))
 
-  pub run_ends : (status ≡ 7 → (status_of answer < 7) × Rose run.sink_before.faults run.sink_now.faults × AppendsFront run.sink_before.written run.sink_now.written (text_of answer))
-      → (status ≡ 8 → Keeps run.sink_before.written run.sink_now.written) → IsRun run status
-  run_ends cut memory = record {
-    whole = λ low. record { answer = answer; may = may; has_status = sym (whole low).0; wrote = (whole low).1 };
-    cut = λ seven. record { cause = (cut seven).1; answer = answer; may = may; has_text = (cut seven).0; wrote = (cut seven).2 };
+  pub run_ends : (outcome.status ≡ 7 → (status_of answer < 7) × Rose run.sink_before.faults run.sink_now.faults × AppendsFront run.sink_before.written run.sink_now.written (text_of answer))
+      → (outcome.status ≡ 8 → Keeps run.sink_before.written run.sink_now.written) → (outcome.status ≡ 8 → outcome.order ≡ []) → IsRun run outcome
+  run_ends cut memory untold = record {
+    whole = λ low. record { answer = answer; may = may; has_status = sym (whole low).0; has_order = sym (order (omega (arith, low))); wrote = (whole low).1 };
+    cut = λ seven. record { cause = (cut seven).1; answer = answer; may = may; has_text = (cut seven).0; has_order = sym (order (let e = seven in omega (arith, e))); wrote = (cut seven).2 };
     memory = memory;
+    untold = untold;
     known = known;
     complete = λ no_fault unfailed. complete no_fault (λ seven. unfailed (cut seven).1) run.before.files refl;
     done = λ below. done below run.before.files refl;

@@ -2,4 +2,5 @@ mod Accepting
 mod Along
 mod Completing
 mod Ending
+mod OneMore
 mod Verdicts

@@ -9,17 +9,23 @@ use Rattle.cell_arcs.specs.declared.faults.LibraryFault.TheVariants as library
 use Rattle.netlist_model.specs.Circuit.{Circuit}
 use Rattle.netlist_model.specs.declared.faults.StatementFault.TheVariants as statement
 use Rattle.netlist_analysis.specs.Findings.{Finding, IsFinding}
+use Rattle.session_script.specs.declared.calls.Call.{Call}
+use Rattle.session_machine.specs.declared.replies.Reply.{Reply}
+use Rattle.query_replies.specs.Served.{AreServed}
 use Rattle.report_writer.specs.declared.faults.FaultLine.{FaultLine}
 use Rattle.report_writer.specs.declared.faults.FaultLine.TheVariants.{Library, NetStatement, EditsStatement, ReadFault, TooLong}
 use Rattle.report_writer.specs.declared.faults.Source.{Source}
 use Rattle.report_writer.specs.declared.faults.Source.TheVariants.{Words, Reading}
+use Rattle.report_writer.specs.ServeText.{serve_text}
 use Rattle.report_writer.specs.Sources.{source_of}
-use Rattle.engine.specs.Answers.{Answer, told}
+use Rattle.engine.specs.Answers.{Answer, plain, told}
 
--- it writes a text; or refuses by a line; or opens a file and goes on by its bytes; or has a netlist analysed and goes on by what is found
+-- it writes a text; or refuses by a line; or serves the sessions of scripts over a netlist; or opens a file and goes on by its bytes;
+-- or has a netlist analysed and goes on by what is found
 pub data Course : Type 0 where
   Writes : List ℕ → Course
   Refuses : FaultLine → Course
+  Serves : List Cell → Circuit → List (List Call) → Course
   Opens : List ℕ → (List ℕ → Course) → Course
   Analyses : List Cell → Circuit → (Finding → Course) → Course
 
@@ -44,6 +50,13 @@ IsRefusal line = OfContent (source_of line) × TellsNoWant line
 abbrev pub IsRefused : FaultLine → Answer → Type 0
 IsRefused line answer = IsRefusal line × (answer ≡ told line)
 
+-- the answer tells an order of the sessions' shared calls, and writes it with the replies that all calls get along it
+pub record IsServed (library : List Cell) (c : Circuit) (scripts : List (List Call)) (answer : Answer) : Type 0 where
+  pub order : List ℕ
+  pub replies : List (List Reply)
+  pub served : AreServed library c scripts order replies
+  pub is : answer ≡ Ok (record { text = serve_text order replies; order = order })
+
 -- what is due for what stands under a name: no file is there, or it is too long, or what its bytes are due
 abbrev pub IsDue : List ℕ → (List ℕ → Type 0) → Answer → Option (List ℕ) → Type 0
 IsDue name Rest answer None = answer ≡ told (ReadFault name)
@@ -52,8 +65,9 @@ IsDue name Rest answer (Some bytes) =
 
 -- the verdict: the answer that told files come to
 abbrev pub IsVerdict : Files → Course → Answer → Type 0
-IsVerdict files (Writes text) answer = answer ≡ Ok text
+IsVerdict files (Writes text) answer = answer ≡ Ok (plain text)
 IsVerdict files (Refuses line) answer = IsRefused line answer
+IsVerdict files (Serves library c scripts) answer = IsServed library c scripts answer
 IsVerdict files (Opens name next) answer = IsDue name (λ bytes. IsVerdict files (next bytes) answer) answer (map.get files name)
 IsVerdict files (Analyses library c next) answer = (finding : Finding) × IsFinding library c finding × IsVerdict files (next finding) answer
 
@@ -61,6 +75,7 @@ IsVerdict files (Analyses library c next) answer = (finding : Finding) × IsFind
 abbrev pub IsFileWord : Course → List ℕ → Type 0
 IsFileWord (Writes text) name = ⊥
 IsFileWord (Refuses line) name = ⊥
+IsFileWord (Serves library c scripts) name = ⊥
 IsFileWord (Opens word next) name = (name ≡ word) ⊎ ((bytes : List ℕ) × IsFileWord (next bytes) name)
 IsFileWord (Analyses library c next) name = (finding : Finding) × IsFileWord (next finding) name
 
@@ -72,8 +87,9 @@ IsUnread before now name answer =
 
 -- the answer comes along the course: each file before was read and accepted, and is the told one where files are told
 abbrev pub Comes : Seen → Seen → Course → Answer → Type 0
-Comes before now (Writes text) answer = answer ≡ Ok text
+Comes before now (Writes text) answer = answer ≡ Ok (plain text)
 Comes before now (Refuses line) answer = IsRefused line answer
+Comes before now (Serves library c scripts) answer = IsServed library c scripts answer
 Comes before now (Opens name next) answer =
     IsUnread before now name answer
     ⊎ ((bytes : List ℕ) × IsFile before.files name bytes × Comes before now (next bytes) answer)

@@ -1,5 +1,5 @@
 -- What a run may answer, and what it leaves in the sink. For all commands.
-use Rattle.std.specs.Prelude.{◌≡◌, ◌≤◌, ◌<◌, ◌⊎◌, ℕ, List, Option, Some, None, Err, IfSome}
+use Rattle.std.specs.Prelude.{◌≡◌, ◌≤◌, ◌<◌, ◌⊎◌, ℕ, List, [], Option, Some, None, Err, IfSome}
 use Rattle.std.specs.Io.KnownBytes.{Appends, Keeps}
 use Rattle.cyc_port.specs.Counts.{Rose}
 use Rattle.cyc_port.specs.Files.{Files}
@@ -7,7 +7,8 @@ use Rattle.cyc_port.specs.Seen.{Seen, SinkSeen}
 use Rattle.cyc_port.specs.Written.{AppendsFront}
 use Rattle.report_writer.specs.declared.faults.FaultLine.TheVariants.{Usage}
 use Rattle.engine.specs.declared.faults.Fault.TheVariants.{Memory}
-use Rattle.engine.specs.Answers.{Answer, told, status_of, text_of}
+use Rattle.engine.specs.declared.outcome.Outcome.{Outcome}
+use Rattle.engine.specs.Answers.{Answer, told, status_of, text_of, order_of}
 use Rattle.engine.specs.Commands.{course_of}
 use Rattle.engine.specs.Courses.{Course, Comes, IsVerdict, IsFileWord}
 
@@ -46,47 +47,52 @@ HadNoFault run =
     (name : List ℕ) → IfSome (course_of run.words) (λ course. IsFileWord course name) →
     Rose (run.before.faults name) (run.now.faults name) → ⊥
 
--- an answer that may come has this status, and its whole text was written
-pub record IsWhole (run : Run) (status : ℕ) : Type 0 where
+-- an answer that may come has this status and this order, and its whole text was written
+pub record IsWhole (run : Run) (outcome : Outcome) : Type 0 where
   pub answer : Answer
   pub may : May run answer
-  pub has_status : status_of answer ≡ status
+  pub has_status : status_of answer ≡ outcome.status
+  pub has_order : order_of answer ≡ outcome.order
   pub wrote : Appends run.sink_before.written run.sink_now.written (text_of answer)
 
--- the sink failed, and has a front of the text of an answer that may come
-pub record IsCut (run : Run) : Type 0 where
+-- the sink failed, and has a front of the text of an answer that may come and has this order
+pub record IsCut (run : Run) (outcome : Outcome) : Type 0 where
   pub cause : Rose run.sink_before.faults run.sink_now.faults
   pub answer : Answer
   pub may : May run answer
   pub has_text : status_of answer < 7
+  pub has_order : order_of answer ≡ outcome.order
   pub wrote : AppendsFront run.sink_before.written run.sink_now.written (text_of answer)
 
--- the answer that the words and these files come to has this status, and its whole text was written
-pub record IsWritten (run : Run) (status : ℕ) (files : Files) : Type 0 where
+-- an answer that the words and these files come to has this status and this order, and its whole text was written
+pub record IsWritten (run : Run) (outcome : Outcome) (files : Files) : Type 0 where
   pub answer : Answer
   pub is_answer : IsAnswer run.words files answer
-  pub has_status : status_of answer ≡ status
+  pub has_status : status_of answer ≡ outcome.status
+  pub has_order : order_of answer ≡ outcome.order
   pub wrote : Appends run.sink_before.written run.sink_now.written (text_of answer)
 
 -- how a run ends
-pub record IsRun (run : Run) (status : ℕ) : Type 0 where
-  -- with status 0 to 6 the sink gained the text of an answer that may come, whole and nothing else
-  pub whole : status < 7 → IsWhole run status
-  -- with 7 the sink failed, and holds a front of such a text
-  pub cut : status ≡ 7 → IsCut run
+pub record IsRun (run : Run) (outcome : Outcome) : Type 0 where
+  -- with status 0 to 6 the sink gained the text of an answer that may come, whole and nothing else, and its order is told
+  pub whole : outcome.status < 7 → IsWhole run outcome
+  -- with 7 the sink failed, and holds a front of such a text, whose order is told
+  pub cut : outcome.status ≡ 7 → IsCut run outcome
   -- with 8 memory was wanting, and nothing is written
-  pub memory : status ≡ 8 → Keeps run.sink_before.written run.sink_now.written
+  pub memory : outcome.status ≡ 8 → Keeps run.sink_before.written run.sink_now.written
+  -- and no order is told
+  pub untold : outcome.status ≡ 8 → outcome.order ≡ []
   -- there is no other status
-  pub known : status ≤ 8
-  -- over told files and with no fault: the answer that they come to is written, or memory was wanting
+  pub known : outcome.status ≤ 8
+  -- over told files and with no fault: an answer that they come to is written, or memory was wanting
   pub complete : HadNoFault run → ¬ Rose run.sink_before.faults run.sink_now.faults →
-      IfSome run.before.files (λ files. (status ≡ 8) ⊎ IsWritten run status files)
-  -- over told files, whatever the counts: a text, and a refusal of words or of what a file says, is the answer that they come to
-  pub done : status < 6 → IfSome run.before.files (IsWritten run status)
+      IfSome run.before.files (λ files. (outcome.status ≡ 8) ⊎ IsWritten run outcome files)
+  -- over told files, whatever the counts: a text, and a refusal of words or of what a file says, is an answer that they come to
+  pub done : outcome.status < 6 → IfSome run.before.files (IsWritten run outcome)
   -- by the words alone: they are refused only where they are no command
-  pub usage : status ≡ 2 → course_of run.words ≡ None
+  pub usage : outcome.status ≡ 2 → course_of run.words ≡ None
   -- and where they are none, nothing else is answered
-  pub refused_words : course_of run.words ≡ None → (status ≡ 2) ⊎ ((status ≡ 7) ⊎ (status ≡ 8))
+  pub refused_words : course_of run.words ≡ None → (outcome.status ≡ 2) ⊎ ((outcome.status ≡ 7) ⊎ (outcome.status ≡ 8))
 
 -- a run over what was seen of the shelf and of the sink
 abbrev pub run_of : List (List ℕ) → Seen → Seen → SinkSeen → SinkSeen → Run

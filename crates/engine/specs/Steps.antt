@@ -1,5 +1,5 @@
 -- The steps of a run along a course. No clause of a public call speaks of them.
-use Rattle.std.specs.Prelude.{◌≡◌, ◌⊎◌, ℕ, List, Ok, Err}
+use Rattle.std.specs.Prelude.{◌≡◌, ◌⊎◌, Err}
 use Rattle.cyc_port.specs.Seen.{Seen, Later}
 use Rattle.engine.specs.declared.faults.Fault.{Fault}
 use Rattle.engine.specs.declared.faults.Fault.TheVariants.{Memory}
@@ -21,7 +21,3 @@ pub record Passes {A : Type 0} (before now : Seen) (way : (A → Course) → Cou
 -- a way was not gone to its end
 pub record Stops {A : Type 0} (before now : Seen) (way : (A → Course) → Course) (fault : Fault) : Type 0 where
   pub at : (next : A → Course) → MayEnd before now (way next) (Err fault)
-
--- the text, or memory was wanting
-abbrev pub IsTextOr : List ℕ → Answer → Type 0
-IsTextOr text answer = (answer ≡ Err Memory) ⊎ (answer ≡ Ok text)

@@ -1,5 +1,5 @@
 -- The words behind a command's name.
-use Rattle.std.specs.Prelude.{◌==◌, ◌&&◌, ℕ, Bool, false, not, List, [], ◌∷◌, Option, Some, None, codes, if◌then◌else◌, nat_le}
+use Rattle.std.specs.Prelude.{◌==◌, ◌&&◌, ℕ, Bool, false, not, List, [], ◌∷◌, Option, Some, None, codes, if◌then◌else◌, length, nat_le}
 use Rattle.std.specs.List.{list_all}
 use Rattle.std.specs.Str.{bytes_eq}
 use Rattle.cyc_text.specs.Number.{number_of}
@@ -36,3 +36,12 @@ abbrev pub workers_behind : List (List ℕ) → Option ℕ
 workers_behind [] = Some 1
 workers_behind (flag ∷ count ∷ []) = workers_of flag count
 workers_behind words = None
+
+-- the first word is `serve`
+abbrev pub is_serve : List (List ℕ) → Bool
+is_serve [] = false
+is_serve (name ∷ words) = bytes_eq name (codes "serve")
+
+-- 1 to 32 words that name the files of scripts
+abbrev pub are_scripts : List (List ℕ) → Bool
+are_scripts words = nat_le 1 (length words) && nat_le (length words) 32 && list_all is_file_word words

@@ -3,7 +3,7 @@ ghost use Rattle.std.specs.Prelude.{◌≡◌};
 ghost use Rattle.engine.specs.declared.faults.Fault.TheVariants.{Memory};
 ghost use Rattle.engine.specs.Answers.{source_status, status_of};
 
-use cyc_text::Text;
+use crate::outcome::Written;
 use report_writer::{FaultLine, Source};
 use std::alloc::{AllocError, AllocFailed};
 
@@ -46,7 +46,7 @@ fn source_status(source: Source) -> u8
 }
 
 /// The status of an answer.
-pub(crate) fn status(answer: &Result<Text, Fault>) -> u8
+pub(crate) fn status(answer: &Result<Written, Fault>) -> u8
     ensures { result ≡ status_of answer.now }
 {
     match answer {

@@ -16,6 +16,9 @@ mod faults;
 mod judging;
 pub mod laws;
 mod outcome;
+mod scripts;
+#[cfg(test)]
+mod serve_tests;
 mod steps;
 #[cfg(test)]
 mod tests;
@@ -24,5 +27,7 @@ mod words;
 mod writing;
 
 pub use faults::Fault;
-pub use outcome::{Order, Outcome};
-pub use top::{answer, cyclone};
+pub use outcome::{Outcome, Written};
+pub use session_run::Order;
+pub use top::{answer, cyclone, serve};
+pub use words::is_serve;

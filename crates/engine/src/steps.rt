@@ -23,7 +23,7 @@ use std::alloc::Global;
 use std::thread::Threads;
 
 /// The text of a file.
-fn open<F: Shelf>(alloc: Global, shelf: &mut F, name: &str) -> Result<Text, Fault>
+pub(crate) fn open<F: Shelf>(alloc: Global, shelf: &mut F, name: &str) -> Result<Text, Fault>
     ensures ok { IfOk result (Passes (F.seen shelf.old) (F.seen shelf.new) (Opens name.now)) }
     ensures err { IfErr result (Stops (F.seen shelf.old) (F.seen shelf.new) (Opens name.now)) }
     ensures later { Later (F.seen shelf.old) (F.seen shelf.new) }
@@ -125,7 +125,7 @@ fn accept_edits(alloc: Global, bytes: &[u8]) -> Result<Edits, Fault>
 }
 
 /// The line of a netlist that has no analysis.
-fn refused(alloc: Global, netlist: &Netlist, fault: &NetlistFault) -> Fault
+pub(crate) fn refused(alloc: Global, netlist: &Netlist, fault: &NetlistFault) -> Fault
     requires { NamesBelow (2 * length netlist.now.nets) fault.now }
     ensures { result ≢ Fault.Memory → (fault.now ≢ NetlistFault.Memory) × (result ≡ Line (netlist_line netlist.now fault.now)) }
 {

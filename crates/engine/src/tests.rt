@@ -77,7 +77,21 @@ bench 3 --workers 2 => bench 3|nets 6 events 12 rules 18|period 180/1|cycle 12 1
 bench 3 --workers 64 => bench 3|nets 6 events 12 rules 18|period 180/1|cycle 12 180 1|arrivals -120/1 40/1|end|
 bench 3 --workers 65 => fault: usage|
 bench --workers 2 3 => fault: usage|
-serve lib.toml a.net a.txt => fault: usage|
+serve => fault: usage|
+serve lib.toml a.net => fault: usage|
+serve lib.toml a.net a.txt => fault: netlist H2|
+serve none.toml none.net a.txt => fault: read none.toml|
+serve lib.toml none.net a.txt => fault: read none.net|
+serve lib.toml a.net --workers 64 a.txt b.txt => fault: netlist H2|
+serve lib.toml a.net --workers 65 a.txt => fault: usage|
+serve lib.toml a.net --workers 2 => fault: usage|
+serve lib.toml a.net --workers => fault: usage|
+serve lib.toml a.net a.txt --workers 2 => fault: usage|
+serve lib.toml --workers 2 a.net a.txt => fault: usage|
+serve lib.toml a.net --workers 2 --workers 2 a.txt => fault: usage|
+serve lib.toml a.net a.txt - => fault: usage|
+serve - a.net a.txt => fault: usage|
+Serve lib.toml a.net a.txt => fault: usage|
 ";
 
 /// Adds what a letter of the tables stands for, at a count from 0: `|` a line feed, `~` a carriage return, `^` a tab, `?` the byte
@@ -134,7 +148,7 @@ pub(crate) fn made(alloc: Global, text: &str) -> Result<Vec<u8>, AllocError> {
 }
 
 /// The status of a written text, by its front.
-fn status_of(text: &[u8]) -> u8 {
+pub(crate) fn status_of(text: &[u8]) -> u8 {
     if !text.starts_with(b"fault: ") {
         0
     } else if text.starts_with(b"fault: usage") {
@@ -143,6 +157,8 @@ fn status_of(text: &[u8]) -> u8 {
         3
     } else if text.starts_with(b"fault: netlist") || text.starts_with(b"fault: edits") {
         4
+    } else if text.starts_with(b"fault: script") {
+        5
     } else {
         6
     }
@@ -154,9 +170,10 @@ pub(crate) fn is_written(outcome: &Outcome, sink: &MemSink, wanted: &[u8]) -> bo
 }
 
 /// Room in a sink for each text of the tables.
-const ROOM: usize = 8_388_608;
+pub(crate) const ROOM: usize = 8_388_608;
 
-fn file(alloc: Global, name: &str, bytes: &[u8]) -> Result<NamedFile, AllocError> {
+/// A file of a shelf.
+pub(crate) fn file(alloc: Global, name: &str, bytes: &[u8]) -> Result<NamedFile, AllocError> {
     Ok(NamedFile {
         name: Text::of(alloc, name.as_bytes())?,
         bytes: Text::of(alloc, bytes)?,
@@ -241,10 +258,11 @@ fn words_and_files(rt: HostRuntime) -> Result<(), Fail> {
 }
 
 /// Words, and the number of files that they read.
-const READS: [(&str, u64); 4] = [
+const READS: [(&str, u64); 5] = [
     ("expand lib.toml a.net", 2),
     ("analyze lib.toml a.net", 2),
     ("apply lib.toml a.net a.edits", 3),
+    ("serve lib.toml a.net a.edits", 3),
     ("bench 3", 0),
 ];
 

@@ -1,10 +1,12 @@
-//! The top call.
-ghost use Rattle.std.specs.Prelude.{◌≡◌, [], map};
+//! The top calls.
+ghost use Rattle.std.specs.Prelude.{◌≡◌, false, map, true};
 ghost use Rattle.std.specs.String.{string_bytes};
 ghost use Rattle.engine.specs.Runs.{IsRun, run_of};
+ghost use Rattle.engine.specs.Words.{is_serve};
 
-use crate::judging::judge;
+use crate::judging::{judge, judge_serve};
 use crate::outcome::Outcome;
+use crate::words::is_serve;
 use crate::writing::write_answer;
 use cyc_port::{Gate, Shelf, Sink};
 use std::alloc::Global;
@@ -13,7 +15,8 @@ use std::thread::Threads;
 /// Does what the words ask for, over the files of the shelf, and writes its text, or the line of a fault, to the sink.
 ///
 /// The words are `expand LIB NET`, `analyze LIB NET [--workers N]`, `apply LIB NET EDITS` or `bench STAGES [--workers N]`. Each file is
-/// read and judged before the next is opened. N workers, 1 to 64, find the arrivals; each passes the gate before its part of a round. How a run ends is the record `IsRun`, a field for each promise.
+/// read and judged before the next is opened. N workers, 1 to 64, find the arrivals; each passes the gate before its part of a round.
+/// How a run ends is the record `IsRun`, a field for each promise.
 pub fn answer<R: Threads + Sync, F: Shelf, K: Sink>(
     rt: &R,
     alloc: Global,
@@ -22,16 +25,38 @@ pub fn answer<R: Threads + Sync, F: Shelf, K: Sink>(
     sink: &mut K,
     gate: &(dyn Gate + Sync),
 ) -> Outcome
+    requires { is_serve (map string_bytes words.now) ≡ false }
     ensures run { IsRun (run_of (map string_bytes words.now)
-        (F.seen shelf.old) (F.seen shelf.new) (K.seen sink.old) (K.seen sink.new)) result.status }
-    ensures order { result.order ≡ [] }
+        (F.seen shelf.old) (F.seen shelf.new) (K.seen sink.old) (K.seen sink.new)) result }
     ensures files { (F.seen shelf.new).files ≡ (F.seen shelf.old).files }
 {
     let answer = judge(rt, alloc, words, shelf, gate);
-    write_answer(alloc, &answer, sink)
+    write_answer(alloc, answer, sink)
 }
 
-/// The top call of the program: `answer` for all words.
+/// Serves the sessions of scripts over a netlist, and writes what their calls are replied, or the line of a fault, to the sink.
+///
+/// The words are `serve LIB NET [--workers N] SCRIPT...`, with 1 to 32 scripts. The base is read and analysed before the first script is
+/// opened, and each script read before the next. The session of script s passes the gate with s before each shared call. The order of
+/// the shared calls, which the text begins with, is told in the outcome. How a run ends is the record `IsRun`, as of `answer`.
+pub fn serve<R: Threads + Sync, F: Shelf, K: Sink>(
+    rt: &R,
+    alloc: Global,
+    words: &[String],
+    shelf: &mut F,
+    sink: &mut K,
+    gate: &(dyn Gate + Sync),
+) -> Outcome
+    requires { is_serve (map string_bytes words.now) ≡ true }
+    ensures run { IsRun (run_of (map string_bytes words.now)
+        (F.seen shelf.old) (F.seen shelf.new) (K.seen sink.old) (K.seen sink.new)) result }
+    ensures files { (F.seen shelf.new).files ≡ (F.seen shelf.old).files }
+{
+    let answer = judge_serve(rt, alloc, words, shelf, gate);
+    write_answer(alloc, answer, sink)
+}
+
+/// The top call of the program: `serve` where the first word is `serve`, else `answer`.
 pub fn cyclone<R: Threads + Sync, F: Shelf, K: Sink>(
     rt: &R,
     alloc: Global,
@@ -41,9 +66,12 @@ pub fn cyclone<R: Threads + Sync, F: Shelf, K: Sink>(
     gate: &(dyn Gate + Sync),
 ) -> Outcome
     ensures run { IsRun (run_of (map string_bytes words.now)
-        (F.seen shelf.old) (F.seen shelf.new) (K.seen sink.old) (K.seen sink.new)) result.status }
-    ensures order { result.order ≡ [] }
+        (F.seen shelf.old) (F.seen shelf.new) (K.seen sink.old) (K.seen sink.new)) result }
     ensures files { (F.seen shelf.new).files ≡ (F.seen shelf.old).files }
 {
-    answer(rt, alloc, words, shelf, sink, gate)
+    if is_serve(words) {
+        serve(rt, alloc, words, shelf, sink, gate)
+    } else {
+        answer(rt, alloc, words, shelf, sink, gate)
+    }
 }

@@ -1,8 +1,8 @@
 //! The words behind a command's name.
-ghost use Rattle.std.specs.Prelude.{◌≡◌, ◌≤◌, ◌<◌, ◌==◌, ◌&&◌, IfSome, Some, map, not, nat_le};
+ghost use Rattle.std.specs.Prelude.{◌≡◌, ◌≤◌, ◌<◌, ◌==◌, ◌&&◌, IfSome, Some, length, map, not, nat_le, true};
 ghost use Rattle.std.specs.List.{list_all};
 ghost use Rattle.std.specs.String.{string_bytes};
-ghost use Rattle.engine.specs.Words.{is_begun_well, is_file_word, stages_of, stages_within, workers_behind, workers_of, workers_within};
+ghost use Rattle.engine.specs.Words.{are_scripts, is_begun_well, is_file_word, is_serve, stages_of, stages_within, workers_behind, workers_of, workers_within};
 
 use cyc_text::read_number;
 
@@ -14,6 +14,19 @@ const MOST_STAGES: u64 = 4096;
 
 /// The most workers.
 const MOST_WORKERS: u64 = 64;
+
+/// The most scripts.
+const MOST_SCRIPTS: usize = 32;
+
+/// Whether the first word is `serve`.
+pub fn is_serve(words: &[String]) -> bool
+    ensures { result ≡ is_serve (map string_bytes words.now) }
+{
+    match words {
+        [] => false,
+        [name, ..] => name.as_str() == "serve",
+    }
+}
 
 fn is_begun_well(word: &[u8]) -> bool
     ensures { result ≡ is_begun_well word.now }
@@ -77,7 +90,7 @@ fn workers_within(number: u64) -> Option<u32>
 }
 
 /// The number of workers that two words say: `--workers N`.
-fn read_workers(flag: &str, count: &str) -> Option<u32>
+pub(crate) fn read_workers(flag: &str, count: &str) -> Option<u32>
     ensures workers { result ≡ workers_of flag.now count.now }
     ensures some { IfSome result (λ n. 0 < n) }
     ensures few { IfSome result (λ n. n ≤ 64) }
@@ -104,4 +117,22 @@ pub(crate) fn workers_behind(words: &[String]) -> Option<u32>
         return None;
     };
     read_workers(flag.as_str(), count.as_str())
+}
+
+/// Whether each word names a file.
+fn are_files(words: &[String]) -> bool
+    ensures { result ≡ list_all (λ word. is_file_word (string_bytes word)) words.now }
+{
+    words.iter().all(|word| is_file(word.as_str()))
+}
+
+/// Whether 1 to 32 words name the files of scripts.
+pub(crate) fn are_scripts(words: &[String]) -> bool
+    ensures scripts { result ≡ are_scripts (map string_bytes words.now) }
+    ensures few { result ≡ true → length words.now ≤ 32 }
+{
+    if words.is_empty() || words.len() > MOST_SCRIPTS {
+        return false;
+    }
+    are_files(words)
 }

@@ -8,11 +8,11 @@ ghost use Rattle.engine.specs.Runs.{MayGive};
 ghost use Rattle.engine.specs.Steps.{MayEnd};
 
 use crate::faults::Fault;
+use crate::outcome::{Written, plain};
 use crate::steps::{analyse, open_library, open_netlist};
 use crate::words::{is_file, workers_behind};
 use cell_arcs::Library;
 use cyc_port::{Gate, Shelf};
-use cyc_text::Text;
 use netlist_model::Netlist;
 use potentials::ArrivalMaker;
 use relax_rounds::Rounds;
@@ -27,13 +27,13 @@ fn report_of<R: Threads + Sync, M: ArrivalMaker>(
     library: &Library,
     netlist: &Netlist,
     maker: &M,
-) -> Result<Text, Fault>
+) -> Result<Written, Fault>
     requires { Fits library.now netlist.now.insts }
     ensures { (seen : Seen) → MayEnd seen seen (analyze_circuit library.now netlist.now) result }
 {
     let found = analyse(rt, alloc, library, netlist, maker)?;
     let text = report_text(alloc, netlist, &found.system, &found.analysis)?;
-    Ok(text)
+    Ok(plain(alloc, text))
 }
 
 /// What the files come to.
@@ -44,7 +44,7 @@ fn of_files<R: Threads + Sync, F: Shelf, M: ArrivalMaker>(
     library_name: &str,
     netlist_name: &str,
     maker: &M,
-) -> Result<Text, Fault>
+) -> Result<Written, Fault>
     ensures may { MayEnd (F.seen shelf.old) (F.seen shelf.new) (analyze_course library_name.now netlist_name.now) result }
     ensures later { Later (F.seen shelf.old) (F.seen shelf.new) }
 {
@@ -62,7 +62,7 @@ fn of_named<R: Threads + Sync, F: Shelf>(
     netlist: &str,
     workers: Option<u32>,
     gate: &(dyn Gate + Sync),
-) -> Result<Text, Fault>
+) -> Result<Written, Fault>
     requires some { IfSome workers (λ n. 0 < n) }
     requires few { IfSome workers (λ n. n ≤ 64) }
     ensures may { MayGive (analyze_named library.now netlist.now workers) (F.seen shelf.old) (F.seen shelf.new) result }
@@ -87,7 +87,7 @@ pub(crate) fn of_words<R: Threads + Sync, F: Shelf>(
     shelf: &mut F,
     words: &[String],
     gate: &(dyn Gate + Sync),
-) -> Result<Text, Fault>
+) -> Result<Written, Fault>
     ensures may { MayGive (analyze_of (map string_bytes words.now)) (F.seen shelf.old) (F.seen shelf.new) result }
     ensures later { Later (F.seen shelf.old) (F.seen shelf.new) }
 {

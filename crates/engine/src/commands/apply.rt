@@ -8,11 +8,11 @@ ghost use Rattle.engine.specs.Runs.{MayGive};
 ghost use Rattle.engine.specs.Steps.{MayEnd};
 
 use crate::faults::Fault;
+use crate::outcome::{Written, plain};
 use crate::steps::{open_edits, open_library, open_netlist};
 use crate::words::is_file;
 use cell_arcs::Library;
 use cyc_port::Shelf;
-use cyc_text::Text;
 use edit_log::apply;
 use netlist_model::{Edit, EditFault, Netlist, StatementFault};
 use netlist_reader::write;
@@ -25,12 +25,12 @@ fn text_after(
     library: &Library,
     netlist: &Netlist,
     edits: &[Edit],
-) -> Result<Text, Fault>
+) -> Result<Written, Fault>
     requires { Fits library.now netlist.now.insts }
     ensures { (seen : Seen) → MayEnd seen seen (edits_made library.now netlist.now edits.now) result }
 {
     match apply(library, netlist, edits) {
-        Ok(edited) => Ok(write(alloc, library, &edited)?),
+        Ok(edited) => Ok(plain(alloc, write(alloc, library, &edited)?)),
         Err(EditFault::Memory | EditFault::At(_, StatementFault::Memory)) => Err(Fault::Memory),
         Err(EditFault::At(position, fault)) => Err(Fault::Line(FaultLine::EditsStatement(
             position as u64,
@@ -46,7 +46,7 @@ fn of_files<F: Shelf>(
     library_name: &str,
     netlist_name: &str,
     edits_name: &str,
-) -> Result<Text, Fault>
+) -> Result<Written, Fault>
     ensures may { MayEnd (F.seen shelf.old) (F.seen shelf.new) (apply_course library_name.now netlist_name.now edits_name.now) result }
     ensures later { Later (F.seen shelf.old) (F.seen shelf.new) }
 {
@@ -61,7 +61,7 @@ pub(crate) fn of_words<F: Shelf>(
     alloc: Global,
     shelf: &mut F,
     words: &[String],
-) -> Result<Text, Fault>
+) -> Result<Written, Fault>
     ensures may { MayGive (apply_of (map string_bytes words.now)) (F.seen shelf.old) (F.seen shelf.new) result }
     ensures later { Later (F.seen shelf.old) (F.seen shelf.new) }
 {

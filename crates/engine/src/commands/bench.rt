@@ -8,11 +8,11 @@ ghost use Rattle.engine.specs.Runs.{MayGive};
 ghost use Rattle.engine.specs.Steps.{MayEnd};
 
 use crate::faults::Fault;
+use crate::outcome::{Written, plain};
 use crate::steps::{analyse, read_library, read_netlist};
 use crate::words::{read_stages, workers_behind};
 use cell_arcs::Library;
 use cyc_port::Gate;
-use cyc_text::Text;
 use netlist_model::Netlist;
 use potentials::ArrivalMaker;
 use relax_rounds::Rounds;
@@ -29,13 +29,13 @@ fn result_of<R: Threads + Sync, M: ArrivalMaker>(
     library: &Library,
     netlist: &Netlist,
     maker: &M,
-) -> Result<Text, Fault>
+) -> Result<Written, Fault>
     requires { Fits library.now netlist.now.insts }
     ensures { (seen : Seen) → MayEnd seen seen (bench_circuit stages library.now netlist.now) result }
 {
     let found = analyse(rt, alloc, library, netlist, maker)?;
     let text = bench_text(alloc, stages, netlist, &found.system, &found.analysis)?;
-    Ok(text)
+    Ok(plain(alloc, text))
 }
 
 /// What a ring of so many stages comes to.
@@ -44,7 +44,7 @@ fn of_stages<R: Threads + Sync, M: ArrivalMaker>(
     alloc: Global,
     stages: u32,
     maker: &M,
-) -> Result<Text, Fault>
+) -> Result<Written, Fault>
     requires least { 3 ≤ stages }
     requires most { stages ≤ 4096 }
     ensures { (seen : Seen) → MayEnd seen seen (bench_course stages) result }
@@ -62,7 +62,7 @@ fn of_named<R: Threads + Sync>(
     stages: &str,
     workers: Option<u32>,
     gate: &(dyn Gate + Sync),
-) -> Result<Text, Fault>
+) -> Result<Written, Fault>
     requires some { IfSome workers (λ n. 0 < n) }
     requires few { IfSome workers (λ n. n ≤ 64) }
     ensures { (seen : Seen) → MayGive (bench_named stages.now workers) seen seen result }
@@ -88,7 +88,7 @@ pub(crate) fn of_words<R: Threads + Sync>(
     alloc: Global,
     words: &[String],
     gate: &(dyn Gate + Sync),
-) -> Result<Text, Fault>
+) -> Result<Written, Fault>
     ensures { (seen : Seen) → MayGive (bench_of (map string_bytes words.now)) seen seen result }
 {
     let [stages, rest @ ..] = words else {

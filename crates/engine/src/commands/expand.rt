@@ -8,11 +8,11 @@ ghost use Rattle.engine.specs.Runs.{MayGive};
 ghost use Rattle.engine.specs.Steps.{MayEnd};
 
 use crate::faults::Fault;
+use crate::outcome::{Written, plain};
 use crate::steps::{open_library, open_netlist};
 use crate::words::is_file;
 use cell_arcs::Library;
 use cyc_port::Shelf;
-use cyc_text::Text;
 use event_expand::expand;
 use netlist_model::Netlist;
 use report_writer::{FaultLine, rules_text};
@@ -28,7 +28,7 @@ fn rules_of<R: Threads + Sync>(
     alloc: Global,
     library: &Library,
     netlist: &Netlist,
-) -> Result<Text, Fault>
+) -> Result<Written, Fault>
     requires { Fits library.now netlist.now.insts }
     ensures { (seen : Seen) → MayEnd seen seen (rules_written library.now netlist.now) result }
 {
@@ -38,7 +38,7 @@ fn rules_of<R: Threads + Sync>(
     }
     let system = expand(rt, alloc, library, netlist)?;
     let text = rules_text(alloc, netlist, &system)?;
-    Ok(text)
+    Ok(plain(alloc, text))
 }
 
 /// What the files come to.
@@ -48,7 +48,7 @@ fn of_files<R: Threads + Sync, F: Shelf>(
     shelf: &mut F,
     library_name: &str,
     netlist_name: &str,
-) -> Result<Text, Fault>
+) -> Result<Written, Fault>
     ensures may { MayEnd (F.seen shelf.old) (F.seen shelf.new) (expand_course library_name.now netlist_name.now) result }
     ensures later { Later (F.seen shelf.old) (F.seen shelf.new) }
 {
@@ -63,7 +63,7 @@ pub(crate) fn of_words<R: Threads + Sync, F: Shelf>(
     alloc: Global,
     shelf: &mut F,
     words: &[String],
-) -> Result<Text, Fault>
+) -> Result<Written, Fault>
     ensures may { MayGive (expand_of (map string_bytes words.now)) (F.seen shelf.old) (F.seen shelf.new) result }
     ensures later { Later (F.seen shelf.old) (F.seen shelf.new) }
 {

@@ -3,3 +3,4 @@ pub(crate) mod analyze;
 pub(crate) mod apply;
 pub(crate) mod bench;
 pub(crate) mod expand;
+pub(crate) mod serve;

@@ -9,6 +9,7 @@ returns-clause-answered c = has_answer c.netlists_have_a_finding.ensures (record
   no_netlist = c.netlists_are_sound.ensures.refused;
   statements = c.netlists_are_sound.ensures.statements;
   no_edits = c.edit_files_are_told.ensures.refused;
+  scripts = c.first_faulty_line_is_told.ensures;
   no_edited = c.edited_netlists_are_sound.ensures.refused;
   edit_statements = c.edited_netlists_are_sound.ensures.statements;
 })

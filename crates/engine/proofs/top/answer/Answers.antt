@@ -8,5 +8,5 @@ pub returns-clause-run : goal.returns-clause-run
 returns-clause-run g c =
     run_ends (run_of (map string_bytes c.args.words.now) (g.F.Shelf.seen c.args.shelf.now) (g.F.Shelf.seen c.judge-answer.new.shelf)
     (g.K.Sink.seen c.args.sink.now) (g.K.Sink.seen c.write_answer.new.sink))
-    c.judge-answer.result c.write_answer.result.status c.judge-answer.ensures.may c.write_answer.ensures.known c.write_answer.ensures.whole
-    c.write_answer.ensures.cut c.write_answer.ensures.memory
+    c.judge-answer.result c.write_answer.result c.judge-answer.ensures.may c.write_answer.ensures.known c.write_answer.ensures.whole
+    c.write_answer.ensures.order c.write_answer.ensures.cut c.write_answer.ensures.memory c.write_answer.ensures.untold

@@ -1,4 +1,4 @@
-use Rattle.std.proofs.Common.{Ok, ap, inr}
+use Rattle.std.proofs.Common.{Ok, ap, inr, refl}
 use Rattle.engine.specs.Commands.{bench_written}
 use Rattle.engine.proofs.Along.{later_refl, stays, quits}
 use Rattle.engine.proofs.commands.bench.result_of.Goals as goal
@@ -11,4 +11,4 @@ returns-in_err-found g c =
 pub returns : goal.returns
 returns g c =
     λ seen. inr (((c.in_ok-found.ensures.ok seen).to (bench_written c.args.stages c.args.library.now c.args.netlist.now)).go seen (later_refl seen)
-    (Ok c.in_ok-text.text) (ap Ok (rw c.in_ok-found.ensures.system at c.in_ok-text.ensures)))
+    (Ok c.plain.result) (ap Ok (rw (c.plain.ensures, c.in_ok-text.ensures, c.in_ok-found.ensures.system) refl)))
