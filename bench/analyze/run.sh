@@ -6,7 +6,7 @@
 # Rings, chains of buffers with side branches and a single tick, Muller rings and meshes, in order and shuffled; nets with both
 # neighbours as inputs; random systems, also with a tick on every rule, with no delays, and with all delays and ticks alike, where every
 # cycle attains the period; cells of 16 inputs; a row of nets with a hub that leads to each, also with cycles of greater and greater
-# ratios; forks with 64 different roots.
+# ratios, a few or one for each net; forks with 64 different roots.
 # Each netlist is whole, connected and live: where a command does not accept one, the script says so, and ends with 1. It takes some minutes.
 # Use: bench/analyze/run.sh [PROGRAM], where PROGRAM is the built program (crates/cyclone/out/cyclone if left out).
 set -eu
@@ -247,6 +247,53 @@ def hub_raised(nets):
     return hub(nets, 4)
 
 
+def hub_closings(nets):
+    """A row of buffers numbered from its end to its start, and a hub that leads to each of them. The way along the row has a lead over the
+    hub's rules that shrinks by one at each net, so a sweep over the nets learns it of one net more. Each net also leads back to the hub,
+    through gates that join 16 nets each, and closes a cycle whose ratio is just above that of the net before."""
+    length = nets * 15 // 16 - 16
+    ratio, lead = 60000, 4 * length + 100
+    cells = {
+        "HUB": [("pos", 15 * ratio, 15 * ratio), ("non", 0, 0)] + [("pos", 0, 0)] * 14,
+        "NEXT": [("pos", ratio - 1, ratio - 1), ("pos", 15 * ratio, 15 * ratio)],
+        "START": [("pos", ratio + lead, ratio + lead)],
+        "TURN": [("pos", 15 * ratio, 15 * ratio)],
+        "JOIN": [("pos", 0, 0)] * 16,
+    }
+    gates, own, short = [None], {}, set()
+    for net in range(1, length):
+        gates.append(("NEXT", [net + 1, 0]))
+        short.add((net + 1, net))
+    gates += [("START", [0]), ("TURN", [0])]
+    short.add((0, length))
+    backs = []
+    for step in range(2, length + 1):
+        above = 2 * step * (step + 15) // length
+        backs.append((length - step + 1, 15 * ratio + above - lead + step - 1))
+    joined = set()
+    while len(backs) > 14:
+        joins = []
+        for at in range(0, len(backs), 16):
+            inputs = (backs[at:at + 16] + [backs[at]] * 16)[:16]
+            for pin, (net, delay) in enumerate(inputs):
+                own[len(gates), pin] = (delay, delay)
+                if net > length + 1:
+                    joined.add((net, len(gates)))
+            joins.append((len(gates), 0))
+            gates.append(("JOIN", [net for net, _ in inputs]))
+        backs = joins
+    joins = [net for net, _ in backs]
+    gates[0] = ("HUB", [length + 1, 0] + (joins + joins[:1] * 14)[:14])
+    joined.update((net, 0) for net in joins)
+
+    def tick(source, target):
+        between = source // 2, target // 2
+        return 0 if between in joined else 1 if between in short else 15
+    netlist = Netlist(gates, tick, cells)
+    netlist.own = own
+    return netlist
+
+
 IDLE = 15
 
 
@@ -340,7 +387,7 @@ KINDS = [
     ("random", drawn), ("random onward", drawn_forward), ("random onward shuffled", shuffled(drawn_forward)),
     ("random, ticks", ticked), ("random, no delays", no_delays), ("random, alike", alike),
     ("16 inputs", wide), ("16 inputs random", wide_drawn), ("hub", hub), ("hub shuffled", shuffled(hub)),
-    ("hub, raised", hub_raised), ("closings", closings), ("closings, idle nets", closings_and_idle), ("one tick a sweep", one_tick_a_sweep),
+    ("hub, raised", hub_raised), ("hub, closings", hub_closings), ("closings", closings), ("closings, idle nets", closings_and_idle), ("one tick a sweep", one_tick_a_sweep),
     ("64 roots, random", with_roots(drawn)), ("64 roots, Muller", with_roots(muller)), ("64 roots, chain", with_roots(chain)),
 ]
 

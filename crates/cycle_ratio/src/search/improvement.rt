@@ -4,18 +4,17 @@ ghost use Rattle.std.specs.Prelude.{◌≤◌};
 
 use crate::search::cycles::cycle_through;
 use crate::search::evaluation::evaluate;
-use crate::search::policy::{Closing, best_closing, choose_longest};
-use cyc_num::Ratio;
+use crate::search::goals::Goals;
+use crate::search::policy::{best_closing, choose_longest};
 use potentials::search::{Heights, Pending, Places, Scale};
 use rule_system::System;
 use std::alloc::{AllocError, Global};
-use std::cmp::Ordering;
 
 /// How many rules the search tries, about, before it gives up: a matter of seconds.
 const MOST_TRIED: usize = 1 << 29;
 
-/// How many rounds in which the ratio stands go on from places whose height moved, in their order.
-const ROUNDS_IN_ORDER: u32 = 1;
+/// How often the best ratio rises by rounds of one sweep alone.
+const RISES_BY_SWEEPS: u32 = 16;
 
 /// A cycle, and places with heights, which may show that the cycle has the greatest ratio.
 #[derive(Drop)]
@@ -35,58 +34,75 @@ pub struct Proposal {
 /// that cycle, and then each event, in an order in which rules of offset 0 go forward, follows the rule that offers most.
 /// Where the ratio stands, only events whose height moved are tried again: first in the same order, for about twice as many
 /// rules as there are, and in later rounds those first that rose most. A few rounds as a rule, each in time linear in the
-/// rules, or that of one search by Dijkstra. It ends when about a fixed number of rules were tried.
+/// rules, or that of one search by Dijkstra.
+///
+/// Where the best ratio rises again and again by little, each round goes on from the events that rose most; where it still
+/// does, ratios above it are tested, and the span between the best one and one that no cycle exceeds is halved (Lawler 1976).
+/// The search ends when about a fixed number of rules were tried.
 pub fn propose(alloc: Global, system: &System) -> Result<Proposal, AllocError> {
     let places = Places::of(alloc, system)?;
     let mut heights = Heights::zeros(alloc, places.count() as usize)?;
-    let mut best = Best {
-        cycle: Vec::new(alloc),
-        ratio: Ratio::of(0, 1),
-    };
+    let mut cycle = Vec::new(alloc);
     if choose_longest(&places, &mut heights) {
-        improve(alloc, &places, &mut heights, &mut best)?;
+        improve(alloc, &places, &mut heights, &mut cycle)?;
     }
     Ok(Proposal {
-        cycle: best.cycle,
+        cycle,
         places,
         heights,
     })
 }
 
-/// The best cycle that the choice ever closed, and its ratio. No rules stand for no cycle.
-#[derive(Drop)]
-struct Best {
-    cycle: Vec<u32>,
-    ratio: Ratio,
-}
-
-/// Improves the choice until no rule raises a height, and keeps the best cycle that it ever closed.
+/// Improves the choice until no rule raises a height at the ratio of the best cycle that it ever closed, and keeps that cycle.
 fn improve(
     alloc: Global,
     places: &Places,
     heights: &mut Heights,
-    best: &mut Best,
+    cycle: &mut Vec<u32>,
 ) -> Result<(), AllocError> {
     let mut pending = Pending::none_of(alloc, places.count() as usize)?;
+    let mut goals = Goals::none();
     let mut stood: u32 = 0;
     'rounds: for _ in 0..MOST_TRIED / cost_of_round(places) {
         let Some(closing) = best_closing(alloc, places, heights)? else {
             break;
         };
-        if is_above(&closing, best) {
-            best.cycle = cycle_through(alloc, heights, closing.place)?;
-            best.ratio = closing.ratio;
-            stood = 0;
-        } else {
-            stood = stood.saturating_add(1);
+        stood = stood.saturating_add(1);
+        if goals.is_below(closing.ratio) {
+            *cycle = cycle_through(alloc, heights, closing.place)?;
+            if goals.rise(closing.ratio) {
+                stood = 0;
+            }
         }
-        let scale = Scale::of(best.ratio);
+        let scale = Scale::of(goals.goal());
         evaluate(alloc, places, scale, closing.place, heights)?;
-        if is_settled(alloc, places, scale, heights, &mut pending, stood)? {
-            break;
+        let way = way_on(goals.rises(), stood);
+        if is_settled(alloc, places, scale, heights, &mut pending, way)? {
+            if goals.is_at_best() {
+                break;
+            }
+            goals.lower();
+            stood = 0;
         }
     }
     Ok(())
+}
+
+/// How a round goes on from the places whose height moved in its sweep.
+#[derive(Clone, Copy)]
+enum Way {
+    NoFurther,
+    InOrder,
+    GreatestFirst,
+}
+
+/// How a round goes on, by how often the best ratio rose, and for how many rounds the one that is tested stood.
+fn way_on(rises: u32, stood: u32) -> Way {
+    match stood {
+        0 if rises <= RISES_BY_SWEEPS => Way::NoFurther,
+        1 if rises <= RISES_BY_SWEEPS => Way::InOrder,
+        _ => Way::GreatestFirst,
+    }
 }
 
 /// About how many rules a round tries, where raises spread the greatest first, and at least 1.
@@ -101,12 +117,7 @@ fn cost_of_round(places: &Places) -> usize
         .saturating_add(1)
 }
 
-/// Whether a cycle has a greater ratio than the best so far, or is the first.
-fn is_above(closing: &Closing, best: &Best) -> bool {
-    best.cycle.is_empty() || closing.ratio.order(&best.ratio) == Ordering::Greater
-}
-
-/// Lets each place follow the rule that offers most, and goes on from those that moved, where the ratio stood for a round.
+/// Lets each place follow the rule that offers most, and goes on from those that moved.
 /// Answers whether no rule raises a height any more.
 fn is_settled(
     alloc: Global,
@@ -114,20 +125,20 @@ fn is_settled(
     scale: Scale,
     heights: &mut Heights,
     pending: &mut Pending,
-    stood: u32,
+    way: Way,
 ) -> Result<bool, AllocError> {
     pending.clear();
     if !heights.sweep(places, scale, pending) {
         return Ok(true);
     }
-    if stood == 0 {
-        return Ok(false);
+    match way {
+        Way::NoFurther => Ok(false),
+        Way::InOrder => {
+            let most = places.rules_into().all().len().saturating_mul(2);
+            Ok(heights.pass(places, scale, pending, most))
+        }
+        Way::GreatestFirst => heights.spread(alloc, places, scale),
     }
-    if stood <= ROUNDS_IN_ORDER {
-        let most = places.rules_into().all().len().saturating_mul(2);
-        return Ok(heights.pass(places, scale, pending, most));
-    }
-    heights.spread(alloc, places, scale)
 }
 
 /// The heights by event.

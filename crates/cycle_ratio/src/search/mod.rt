@@ -2,6 +2,7 @@
 
 mod cycles;
 mod evaluation;
+mod goals;
 mod improvement;
 mod policy;
 
