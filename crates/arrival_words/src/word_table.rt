@@ -55,7 +55,7 @@ impl<'s> WordTable<'s> {
         ensures about { IfOk result (λ r. about_words r.0 ≡ about system.now root period) }
         ensures seat { IfOk result (λ r. IsSeatOf r.0 r.1 × (r.1.me.0.known ≡ start.now)) }
     {
-        let _ = system.events();
+        system.sound();
         let words = words_of(alloc, start)?;
         let key = Key {
             system: Snapshot::of(system),

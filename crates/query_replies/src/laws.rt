@@ -14,6 +14,6 @@ pub fn rows_are_told(row: &Row)
     finding_is_unique();
     tellings_exist();
     row.right();
-    let _ = row.netlist.net_count();
-    let _ = row.library.count();
+    row.netlist.sound();
+    row.library.sound();
 }

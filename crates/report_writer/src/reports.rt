@@ -201,7 +201,7 @@ pub fn report_text(
     ensures { IfOk result (λ text. text ≡ spec.report_text net.now system.now analysis.now) }
 {
     first_cycles_have_small_sums();
-    let _ = system.rules();
+    system.sound();
     let mut text = Vec::new(alloc);
     push_report(&mut text, net, system, analysis)?;
     Text::of(alloc, &text)

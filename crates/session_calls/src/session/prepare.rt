@@ -54,7 +54,7 @@ fn fault_told(
     ensures { (all : Analyses) → all.library ≡ library.now → IfOk result (λ f. refusal_in netlist.now.nets (all.tell netlist.now) ≡ Some f) }
 {
     finding_is_unique();
-    let _ = netlist.net_count();
+    netlist.sound();
     net_refusal(alloc, netlist, fault)
 }
 

@@ -11,7 +11,7 @@ of_words-requires c = let made = c.in_ok-words.ensures in let is : c.as_slice.re
     let start : values_of c.as_slice.result.now ≡ c.args.start.now = ap values_of is ∙ made.values in
     opens _ c.as_slice.result.now _ refl (ap (λ v. values_of v.items) c.of-2.ensures ∙ sym (ap values_of is))
     (subst (λ (y : EventRules). IsSound (about y c.args.root c.args.period)) was
-    (record { system = c.events.ensures.system; root = c.requires.root; period = c.requires.period; no_gain = c.requires.no_gain }))
+    (record { system = c.sound.ensures.system; root = c.requires.root; period = c.requires.period; no_gain = c.requires.no_gain }))
     (ap (λ (l : List ℕ). get_or l 0 0) is ∙ made.first)
     (ap length is ∙ made.length ∙ ap suc (c.requires.start.0 ∙ ap (λ (y : EventRules). y.events) was))
     (λ e h. subst (λ (y : EventRules). IsWeightOfWalk (about y c.args.root c.args.period) e (get_or (values_of c.as_slice.result.now) e (pos 0))) was
