@@ -8,8 +8,6 @@
 
 pub mod laws;
 mod lists;
-#[cfg(test)]
-mod tests;
 
 pub use lists::{apply, copy_edits};
 pub use netlist_model::{EditFault, Edits};

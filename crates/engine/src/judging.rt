@@ -12,6 +12,7 @@ use crate::outcome::Written;
 use cyc_port::{Gate, Shelf};
 use report_writer::FaultLine;
 use std::alloc::Global;
+use std::sync::Wait;
 use std::thread::Threads;
 
 /// What the words behind a command's name come to.
@@ -58,7 +59,7 @@ pub(crate) fn judge<R: Threads + Sync, F: Shelf>(
 }
 
 /// What words come to of which the first is `serve`, over the files of the shelf.
-pub(crate) fn judge_serve<R: Threads + Sync, F: Shelf>(
+pub(crate) fn judge_serve<R: Threads + Wait + Sync, F: Shelf>(
     rt: &R,
     alloc: Global,
     words: &[String],

@@ -5,23 +5,13 @@
 //! at once (`specs/Runs`), and so are the laws (`laws`).
 #![tactic(auto)]
 
-#[cfg(test)]
-mod analyze_tests;
 mod commands;
-#[cfg(test)]
-mod edit_tests;
-#[cfg(test)]
-mod expand_tests;
 mod faults;
 mod judging;
 pub mod laws;
 mod outcome;
 mod scripts;
-#[cfg(test)]
-mod serve_tests;
 mod steps;
-#[cfg(test)]
-mod tests;
 mod top;
 mod words;
 mod writing;

@@ -10,6 +10,7 @@ use crate::words::is_serve;
 use crate::writing::write_answer;
 use cyc_port::{Gate, Shelf, Sink};
 use std::alloc::Global;
+use std::sync::Wait;
 use std::thread::Threads;
 
 /// Does what the words ask for, over the files of the shelf, and writes its text, or the line of a fault, to the sink.
@@ -37,9 +38,10 @@ pub fn answer<R: Threads + Sync, F: Shelf, K: Sink>(
 /// Serves the sessions of scripts over a netlist, and writes what their calls are replied, or the line of a fault, to the sink.
 ///
 /// The words are `serve LIB NET [--workers N] SCRIPT...`, with 1 to 32 scripts. The base is read and analysed before the first script is
-/// opened, and each script read before the next. The session of script s passes the gate with s before each shared call. The order of
-/// the shared calls, which the text begins with, is told in the outcome. How a run ends is the record `IsRun`, as of `answer`.
-pub fn serve<R: Threads + Sync, F: Shelf, K: Sink>(
+/// opened, and each script read before the next. Each session runs beside the others, and that of script s passes the gate with s before
+/// each shared call. The order in which the shared calls took their places, which the text begins with, is told in the outcome. How a run
+/// ends is the record `IsRun`, as of `answer`.
+pub fn serve<R: Threads + Wait + Sync, F: Shelf, K: Sink>(
     rt: &R,
     alloc: Global,
     words: &[String],
@@ -57,7 +59,7 @@ pub fn serve<R: Threads + Sync, F: Shelf, K: Sink>(
 }
 
 /// The top call of the program: `serve` where the first word is `serve`, else `answer`.
-pub fn cyclone<R: Threads + Sync, F: Shelf, K: Sink>(
+pub fn cyclone<R: Threads + Wait + Sync, F: Shelf, K: Sink>(
     rt: &R,
     alloc: Global,
     words: &[String],

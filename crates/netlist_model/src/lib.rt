@@ -13,8 +13,6 @@ mod names;
 mod netlist;
 mod pairs;
 mod parts;
-#[cfg(test)]
-mod tests;
 mod ticks;
 mod whole;
 mod wiring;

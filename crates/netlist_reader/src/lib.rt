@@ -7,12 +7,8 @@ mod files;
 mod laws;
 mod lent;
 mod lines;
-#[cfg(test)]
-mod tests;
 mod words;
 mod writing;
-#[cfg(test)]
-mod writing_tests;
 
 pub use edit_files::read_edits;
 pub use faults::{EditsFault, LineFault, NetFault};

@@ -13,7 +13,7 @@ use Rattle.session_run.specs.Items.{Item, session_of, places_in}
 use Rattle.session_run.specs.InTurn.{calls_of}
 
 -- how many items the k sessions from n on have
-unfoldable counts : ℕ → ℕ → List Item → ℕ
+unfoldable pub counts : ℕ → ℕ → List Item → ℕ
 counts n zero seen = 0
 counts n (suc k) seen = length (own session_of n seen) + counts (n + 1) k seen
 
@@ -38,7 +38,7 @@ counts_in n (suc k) i seen a b = dite (ℕ_discrete (session_of i) n)
     (λ ne. let one : length (own session_of n (i ∷ seen)) ≡ length (own session_of n seen) = ap (λ b. length (cond b (i ∷ own session_of n seen) (own session_of n seen))) (other_number (session_of i) n ne) in
     let rest = counts_in (n + 1) k i seen (omega arith) (omega arith) in omega arith)
 
-counts_all : (k : ℕ) (seen : List Item) → Every (λ e. (1 ≤ session_of e) × (session_of e ≤ k)) seen → counts 1 k seen ≡ length seen
+pub counts_all : (k : ℕ) (seen : List Item) → Every (λ e. (1 ≤ session_of e) × (session_of e ≤ k)) seen → counts 1 k seen ≡ length seen
 counts_all k [] e = counts_nil 1 k
 counts_all k (i ∷ seen) e = counts_in 1 k i seen e.0.0 (let h = e.0.1 in omega arith) ∙ ap suc (counts_all k seen e.1)
 

@@ -21,8 +21,10 @@ use Rattle.session_calls.specs.States.{SessionState, holding_of, net_of, nets, K
 use Rattle.session_calls.specs.Turns.{Finishes}
 use Rattle.session_run.proofs.Numbers.{same_number}
 use Rattle.session_run.proofs.Pins.{pinned_is}
-use Rattle.session_run.specs.Items.{Item, session_of, place_of, places_in}
+use Rattle.session_run.specs.Items.{Item, session_of, place_of, places_in, acts_in}
 use Rattle.session_run.specs.Going.{Told, machine_at, nets_at, rows_at, IsGoing}
+use Rattle.session_run.specs.Acts.{noted_by, step_over, acts_from}
+use Rattle.session_run.specs.Serving.{IsActing}
 
 get_front : {A : Type 0} (xs ys : List A) (n : ℕ) (x : A) → slice_get xs n ≡ Some x → slice_get (xs ++ ys) n ≡ Some x
 get_front [] ys n x e = absurd (cc)
@@ -114,9 +116,8 @@ given_more told e =
     ∙ ap (λ l. given_by is_shared told ++ l) (elim (is_shared e.call) as (λ b. map (λ (e : Event Call Reply Version). e.gives) (cond b (e ∷ []) []) ≡ cond b (e.gives ∷ []) []) [ true ↦ refl | false ↦ refl ]))
 
 module _ (all : Analyses) (base : RowState) where
-  -- a call of a session alone
   abbrev step_at : List Version → Holding → Call → Act
-  step_at versions has c = act all.library (readings_in all) (nets_at all base versions) has c
+  step_at versions has c = step_over all base versions has c
 
   own_local : (n : ℕ) (now : List Version) (has : Holding) (later : List (List Version)) (c : Call) (rest : List Call) → is_shared c ≡ false
       → own_from (machine_at all base) n now has later (c ∷ rest) ≡ event n c (step_at now has c) ∷ own_from (machine_at all base) n now (step_at now has c).has later rest
@@ -126,6 +127,15 @@ module _ (all : Analyses) (base : RowState) where
   own_shared : (n : ℕ) (now v : List Version) (has : Holding) (later : List (List Version)) (c : Call) (rest : List Call) → is_shared c ≡ true
       → own_from (machine_at all base) n now has (v ∷ later) (c ∷ rest) ≡ event n c (step_at v has c) ∷ own_from (machine_at all base) n (more v (step_at v has c).gives) (step_at v has c).has later rest
   own_shared n now v has later c rest sh = rw sh refl
+
+  acts_local : (now : List Version) (has : Holding) (later : List (List Version)) (c : Call) (rest : List Call) → is_shared c ≡ false
+      → acts_from all base now has later (c ∷ rest) ≡ acts_from all base now (step_at now has c).has later rest
+  acts_local now has [] c rest sh = rw sh refl
+  acts_local now has (v ∷ vs) c rest sh = rw sh refl
+
+  acts_shared : (now v : List Version) (has : Holding) (later : List (List Version)) (c : Call) (rest : List Call) → is_shared c ≡ true
+      → acts_from all base now has (v ∷ later) (c ∷ rest) ≡ noted_by all (nets_at all base v) has c ∷ acts_from all base (more v (step_at v has c).gives) (step_at v has c).has later rest
+  acts_shared now v has later c rest sh = rw sh refl
 
   module _ (n : ℕ) (script : List Call) (seen : List Item) (s t : SessionState) (told : Told) (c : Call) (rest : List Call) (r : Reply) (g : IsGoing all base n script seen s told (c ∷ rest)) where
     -- by a local call
@@ -141,8 +151,8 @@ module _ (all : Analyses) (base : RowState) where
       abbrev local_event : Event Call Reply Version
       local_event = event n c (only_replies (holding_of t) r)
 
-      pub going_local : IsGoing all base n script seen t (told ++ local_event ∷ []) rest
-      going_local = record {
+      abbrev local_going : IsGoing all base n script seen t (told ++ local_event ∷ []) rest
+      local_going = record {
         now = g.now;
         goes = λ later. g.goes later ∙ (ap (λ es. told ++ es) (own_local n g.now (holding_of s) later c rest sh
             ∙ ap (λ (m : Act). event n c m ∷ own_from (machine_at all base) n g.now m.has later rest) local_act)
@@ -152,6 +162,14 @@ module _ (all : Analyses) (base : RowState) where
         knows = subst (λ (p : Option (ℕ × RowState)). MatchOption p ⊤ (λ q. slice_get (rows_at base seen) q.0 ≡ Some q.1)) (sym pin) g.knows;
         given = g.given ∙ sym (given_more told local_event ∙ (ap (λ b. given_by is_shared told ++ cond b (None ∷ []) []) sh ∙ append-nil (given_by is_shared told)));
       }
+
+      pub going_local : IsGoing all base n script seen t (told ++ local_event ∷ []) rest
+      going_local = local_going
+
+      -- and it notes nothing
+      pub acting_local : (made : List Item) → IsActing all base n script seen made g.now (holding_of s) (c ∷ rest)
+          → (w : IsGoing all base n script seen t (told ++ local_event ∷ []) rest) × IsActing all base n script seen made w.now (holding_of t) rest
+      acting_local made a = (local_going, λ later. a later ∙ ap (λ l. acts_in made ++ l) (acts_local g.now (holding_of s) later c rest sh ∙ ap (λ (m : Act). acts_from all base g.now m.has later rest) local_act))
 
     -- by a turn
     module _ (over : base.library ≡ all.library) (sh : is_shared c ≡ true) (list : List Item) (e : Item) (m : Act) (begins : StartsWith list seen) (others : own session_of n begins.0 ≡ []) (mine : e.entry.session ≡ n)
@@ -191,12 +209,13 @@ module _ (all : Analyses) (base : RowState) where
       abbrev turn_event : Event Call Reply Version
       turn_event = record { session = n; call = c; reply = r; gives = m.gives }
 
-      pub going_turn : IsGoing all base n script (list ++ e ∷ []) t (told ++ turn_event ∷ []) rest
-      going_turn =
-          let now = all_versions [] (places_in (list ++ e ∷ [])) in
-          let known = ends.knows (longer g.knows) in
+      abbrev turn_now : List Version
+      turn_now = all_versions [] (places_in (list ++ e ∷ []))
+
+      abbrev turn_going : IsGoing all base n script (list ++ e ∷ []) t (told ++ turn_event ∷ []) rest
+      turn_going =
           record {
-            now = now;
+            now = turn_now;
             goes = λ later.
                 ap (λ x. own_from (machine_at all base) n [] fresh (x ++ later) script) views_more
                 ∙ (ap (λ x. own_from (machine_at all base) n [] fresh x script) (append_assoc (views n [] (places_in seen)) (versions ∷ []) later)
@@ -204,9 +223,9 @@ module _ (all : Analyses) (base : RowState) where
                 ∙ (ap (λ es. told ++ es) (own_shared n g.now versions (holding_of s) later c rest sh
                 ∙ (ap (λ (m : Act). event n c m ∷ own_from (machine_at all base) n (more versions m.gives) m.has later rest) turn_act
                 ∙ (λ i. record { session = n; call = c; reply = sym ends.reply i; gives = m.gives } ∷ own_from (machine_at all base) n (now_is i) (sym ends.has i) later rest)))
-                ∙ sym (append_assoc told (turn_event ∷ []) (own_from (machine_at all base) n now (holding_of t) later rest)))));
-            holds = ap (λ ns. pinned ns (holding_of t)) (nets_are (list ++ e ∷ []) chain) ∙ pinned_is (rows_at base (list ++ e ∷ [])) t known;
-            knows = known;
+                ∙ sym (append_assoc told (turn_event ∷ []) (own_from (machine_at all base) n turn_now (holding_of t) later rest)))));
+            holds = ap (λ ns. pinned ns (holding_of t)) (nets_are (list ++ e ∷ []) chain) ∙ pinned_is (rows_at base (list ++ e ∷ [])) t (ends.knows (longer g.knows));
+            knows = ends.knows (longer g.knows);
             given =
                 ap (λ l. given_at (places_of n l)) places_more
                 ∙ (ap given_at (filter-append (λ (p : Place Version). p.session == n) (places_in list) (place_of e ∷ []))
@@ -214,3 +233,23 @@ module _ (all : Analyses) (base : RowState) where
                 ∙ ((λ i. given_same i ++ map (λ (p : Place Version). p.gives) (cond (is_mine i) (place_of e ∷ []) []))
                 ∙ ((λ i. g.given i ++ gives i ∷ []) ∙ sym (given_more told turn_event ∙ ap (λ b. given_by is_shared told ++ cond b (m.gives ∷ []) []) sh)))));
           }
+
+      pub going_turn : IsGoing all base n script (list ++ e ∷ []) t (told ++ turn_event ∷ []) rest
+      going_turn = turn_going
+
+      -- and what it notes is what it would note alone
+      pub acting_turn : (made : List Item) → IsActing all base n script seen made g.now (holding_of s) (c ∷ rest) → e.entry.act ≡ noted_by all (nets (rows_at base list)) (holding_of s) c
+          → (w : IsGoing all base n script (list ++ e ∷ []) t (told ++ turn_event ∷ []) rest) × IsActing all base n script (list ++ e ∷ []) (made ++ e ∷ []) w.now (holding_of t) rest
+      acting_turn made a act_by =
+          let noted : noted_by all (nets_at all base versions) (holding_of s) c ≡ e.entry.act = ap (λ ns. noted_by all ns (holding_of s) c) (nets_are list rows_before) ∙ sym act_by in (
+            turn_going,
+            λ later.
+                ap (λ x. acts_from all base [] fresh (x ++ later) script) views_more
+                ∙ (ap (λ x. acts_from all base [] fresh x script) (append_assoc (views n [] (places_in seen)) (versions ∷ []) later)
+                ∙ (a (versions ∷ later)
+                ∙ (ap (λ l. acts_in made ++ l) (acts_shared g.now versions (holding_of s) later c rest sh
+                ∙ (ap (λ (m : Act). noted_by all (nets_at all base versions) (holding_of s) c ∷ acts_from all base (more versions m.gives) m.has later rest) turn_act
+                ∙ (λ i. noted i ∷ acts_from all base (now_is i) (sym ends.has i) later rest)))
+                ∙ (sym (append_assoc (acts_in made) (e.entry.act ∷ []) (acts_from all base turn_now (holding_of t) later rest))
+                ∙ ap (λ l. l ++ acts_from all base turn_now (holding_of t) later rest) (sym (map-append (λ (i : Item). i.entry.act) made (e ∷ []))))))),
+          )

@@ -26,16 +26,10 @@ use Rattle.session_run.specs.Items.{Item, session_of, places_in}
 use Rattle.session_run.specs.Going.{machine_at}
 use Rattle.session_run.specs.Playing.{IsPlaying}
 use Rattle.session_run.specs.InTurn.{Sits, AreSeated, AreKnown}
+use Rattle.session_run.specs.Jobs.{Each}
 use Rattle.session_run.proofs.Counts.{times_own, times_outside}
 
--- for the sessions from n on, in order
-abbrev Rows : {A : Type 0} → (ℕ → List Call → A → Type 0) → ℕ → List (List Call) → List A → Type 0
-Rows P n [] [] = Unit {0}
-Rows P n [] (y ∷ ys) = ⊥
-Rows P n (x ∷ xs) [] = ⊥
-Rows P n (x ∷ xs) (y ∷ ys) = P n x y × Rows P (n + 1) xs ys
-
-row_get : {A : Type 0} (P : ℕ → List Call → A → Type 0) (n : ℕ) (xs : List (List Call)) (ys : List A) (s : ℕ) → Rows P n xs ys → n ≤ s → s < n + length xs → (y : A) × P s (script_from n xs s) y
+pub row_get : {A : Type 0} (P : ℕ → List Call → A → Type 0) (n : ℕ) (xs : List (List Call)) (ys : List A) (s : ℕ) → Each P n xs ys → n ≤ s → s < n + length xs → (y : A) × P s (script_from n xs s) y
 row_get P n [] ys s r a b = absurd (omega arith)
 row_get P n (x ∷ xs) [] s r a b = absurd r
 row_get P n (x ∷ xs) (y ∷ ys) s r a b = dite (ℕ_discrete s n)
@@ -43,7 +37,7 @@ row_get P n (x ∷ xs) (y ∷ ys) s r a b = dite (ℕ_discrete s n)
     (λ d. let h = row_get P (n + 1) xs ys s r.1 (omega arith) (omega arith) in (h.0, subst (λ (t : List Call). P s t h.0) (sym (ap (λ b. cond b x (script_from (n + 1) xs s)) (other_number s n d))) h.1))
 
 -- from a fact of each index
-row_of : (P : ℕ → List Call → Player → Type 0) (n : ℕ) (xs : List (List Call)) (ps : List Player) → length ps ≡ length xs → ((k : ℕ) (x : List Call) (p : Player) → k < length xs → P (n + k) (get_or xs k x) (get_or ps k p)) → Rows P n xs ps
+row_of : (P : ℕ → List Call → Player → Type 0) (n : ℕ) (xs : List (List Call)) (ps : List Player) → length ps ≡ length xs → ((k : ℕ) (x : List Call) (p : Player) → k < length xs → P (n + k) (get_or xs k x) (get_or ps k p)) → Each P n xs ps
 row_of P n [] [] l h = tt
 row_of P n [] (p ∷ ps) l h = absurd (omega arith)
 row_of P n (x ∷ xs) [] l h = absurd (omega arith)
@@ -55,7 +49,7 @@ pub sessions_of : (items : List Item) → map (λ e. e.session) (map (λ (i : It
 sessions_of [] = refl
 sessions_of (i ∷ is) = ap (λ l. i.entry.session ∷ l) (sessions_of is)
 
-order_is : (items : List Item) → map (λ (i : Item). i.entry.session) items ≡ order_of (places_in items)
+pub order_is : (items : List Item) → map (λ (i : Item). i.entry.session) items ≡ order_of (places_in items)
 order_is [] = refl
 order_is (i ∷ is) = ap (λ l. i.entry.session ∷ l) (order_is is)
 
@@ -75,14 +69,14 @@ module _ (all : Analyses) (base : RowState) (seen : List Item) where
         count = times_own n seen ∙ (let c = h.count in omega arith);
       }
 
-  all_mine : (scripts : List (List Call)) (players : List Player) (at : ℕ) → AreSeated all base seen scripts players 0 at → ((k : ℕ) (d : List Call) → k < length scripts → length (get_or scripts k d) ≤ at) → Rows IsMine 1 scripts players
+  all_mine : (scripts : List (List Call)) (players : List Player) (at : ℕ) → AreSeated all base seen scripts players 0 at → ((k : ℕ) (d : List Call) → k < length scripts → length (get_or scripts k d) ≤ at) → Each IsMine 1 scripts players
   all_mine scripts players at s done = row_of IsMine 1 scripts players s.many (λ k x p lt.
       let e : k + 1 ≡ 1 + k = omega arith in
       let none : drop at (get_or scripts k x) ≡ [] = drop_of_length-le (get_or scripts k x) (done k x lt) in
       subst (λ m. IsMine m (get_or scripts k x) (get_or players k p)) e
       (done_mine (k + 1) (get_or scripts k x) (get_or players k p) (subst (IsPlaying all base seen (k + 1) (get_or scripts k x) (get_or players k p).session (get_or players k p).replies.items) none (s.behind k x p (omega arith) lt))))
 
-  module _ (scripts : List (List Call)) (ps : List Player) (within : Every (λ e. (1 ≤ session_of e) × (session_of e ≤ length scripts)) seen) (row : Rows IsMine 1 scripts ps) where
+  module _ (scripts : List (List Call)) (ps : List Player) (within : Every (λ e. (1 ≤ session_of e) × (session_of e ≤ length scripts)) seen) (row : Each IsMine 1 scripts ps) where
     is_order : IsOrder is_shared scripts (order_of (places_in seen))
     is_order s = dite (dec_le 1 s)
         (λ from. dite (dec_le s (length scripts))
@@ -90,7 +84,7 @@ module _ (all : Analyses) (base : RowState) (seen : List Item) where
         (λ above. times_outside s (length scripts) seen within (inr (omega arith)) ∙ sym (ap (shared_calls is_shared) (none_outside 1 s scripts (omega arith)))))
         (λ below. times_outside s (length scripts) seen within (inl (omega arith)) ∙ sym (ap (shared_calls is_shared) (none_before 1 s scripts (omega arith))))
 
-    all_replies : (n : ℕ) (xs : List (List Call)) (ys : List Player) → Rows IsMine n xs ys → all_own (machine_at all base) (places_in seen) n xs ≡ map (λ p. p.replies.items) ys
+    all_replies : (n : ℕ) (xs : List (List Call)) (ys : List Player) → Each IsMine n xs ys → all_own (machine_at all base) (places_in seen) n xs ≡ map (λ p. p.replies.items) ys
     all_replies n [] [] r = refl
     all_replies n [] (y ∷ ys) r = absurd r
     all_replies n (x ∷ xs) [] r = absurd r

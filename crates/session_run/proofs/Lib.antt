@@ -6,3 +6,9 @@ mod InTurns
 mod Numbers
 mod Pins
 mod Written
+mod Serving
+mod Halves
+mod Joins
+mod Finals
+mod Fills
+mod Noted

@@ -31,7 +31,7 @@ none_other : (n m : ℕ) (new : List Item) → Every (λ e. session_of e ≡ m) 
 none_other n m [] e d = refl
 none_other n m (i ∷ new) e d = ap (λ b. cond b (i ∷ own session_of n new) (own session_of n new)) (other_number (session_of i) n (λ k. d (sym e.0 ∙ k))) ∙ none_other n m new e.1 d
 
-replies_more : (told : Told) (e : Event Call Reply Version) → replies_of (told ++ e ∷ []) ≡ replies_of told ++ e.reply ∷ []
+pub replies_more : (told : Told) (e : Event Call Reply Version) → replies_of (told ++ e ∷ []) ≡ replies_of told ++ e.reply ∷ []
 replies_more told e = map-append (λ (e : Event Call Reply Version). e.reply) told (e ∷ [])
 
 pub calls_shared : (c : Call) (rest : List Call) (b : Bool) → is_shared c ≡ b → shared_calls is_shared (c ∷ rest) ≡ cond b (suc (shared_calls is_shared rest)) (shared_calls is_shared rest)

@@ -1,5 +1,6 @@
 -- The items of a hall as places of an order.
-use Rattle.std.specs.Prelude.{ℕ, List, map, option_map}
+use Rattle.std.specs.Prelude.{ℕ, ◌+◌, ◌==◌, if◌then◌else◌, List, [], ◌∷◌, map, option_map}
+use Rattle.version_store.specs.declared.entry.HallAct.{HallAct}
 use Rattle.version_store.specs.declared.state.HallItem.{HallItem}
 use Rattle.session_machine.specs.Alone.{Place}
 use Rattle.session_machine.specs.Versions.{Version}
@@ -18,3 +19,13 @@ place_of i = record { session = i.entry.session; gives = option_map (λ r. r.edi
 
 abbrev pub places_in : List Item → List (Place Version)
 places_in items = map place_of items
+
+-- what was noted of each item
+abbrev pub acts_in : List Item → List HallAct
+acts_in items = map (λ i. i.entry.act) items
+
+-- where a session's items stand, counted from a number on
+abbrev pub positions : ℕ → ℕ → List Item → List ℕ
+positions session at [] = []
+positions session at (i ∷ items) =
+    if i.entry.session == session then at ∷ positions session (at + 1) items else positions session (at + 1) items

@@ -2,3 +2,8 @@ pub mod Items
 pub mod Going
 pub mod Playing
 pub mod InTurn
+pub mod Acts
+pub mod Seats
+pub mod Serving
+pub mod Jobs
+pub mod Filled

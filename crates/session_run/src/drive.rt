@@ -1,14 +1,13 @@
 //! All sessions on one thread.
-ghost use Rattle.std.specs.Prelude.{◌≡◌, ◌<◌, ◌≤◌, ℕ, List, [], map, get_or, IfOk, IfSome, length};
+ghost use Rattle.std.specs.Prelude.{◌≡◌, ◌<◌, ◌≤◌, ℕ, List, [], map, get_or, IfOk, length};
 ghost use Rattle.std.specs.Arc.{arc_value};
-ghost use Rattle.session_script.specs.Calls.{is_shared};
 ghost use Rattle.session_script.specs.declared.calls.Call.{Call};
-ghost use Rattle.session_machine.specs.Orders.{shared_calls};
 ghost use Rattle.pinned_reader.specs.Rows.{RowState};
 ghost use Rattle.query_replies.specs.Readings.{Analyses};
 ghost use Rattle.query_replies.specs.Served.{AreServed};
-ghost use Rattle.session_run.specs.InTurn.{AreSeated, calls_of};
+ghost use Rattle.session_run.specs.InTurn.{AreSeated};
 
+use crate::counting::total_calls;
 use crate::players::Player;
 use crate::rounds::round;
 use crate::served::{Order, ReplyLists, Served};
@@ -18,35 +17,11 @@ use potentials::ArrivalMaker;
 use query_replies::laws::rows_are_told;
 use session_calls::Session;
 use session_machine::{Replies, sessions_are_one_order};
-use session_script::{Call, Script};
+use session_script::Script;
 use std::alloc::{AllocError, Global};
 use std::sync::Arc;
 use std::thread::Threads;
 use version_store::Hall;
-
-/// How many shared calls a script has.
-fn count_shared(script: &[Call]) -> u64
-    ensures { result ≡ shared_calls is_shared script.now }
-{
-    let mut count = 0;
-    for call in script {
-        if call.is_shared() {
-            count += 1;
-        }
-    }
-    count
-}
-
-/// How many all scripts have.
-fn total_calls(scripts: &[Script]) -> Option<u64>
-    ensures { IfSome result (λ n. n ≡ calls_of scripts.now) }
-{
-    let mut total = 0u64;
-    for script in scripts {
-        total = total.checked_add(count_shared(script.list()))?;
-    }
-    Some(total)
-}
 
 /// The most calls of a script.
 fn longest(scripts: &[Script]) -> usize

@@ -22,10 +22,10 @@ use pinned_reader::Row;
 use potentials::ArrivalMaker;
 use relax_rounds::Rounds;
 use report_writer::{FaultLine, serve_text};
-use session_run::serve_in_turn;
+use session_run::serve_sessions;
 use session_script::Script;
 use std::alloc::Global;
-use std::sync::Arc;
+use std::sync::{Arc, Wait};
 use std::thread::Threads;
 
 /// The base row of a netlist that has an analysis.
@@ -66,7 +66,7 @@ fn open_base<R: Threads + Sync, F: Shelf, M: ArrivalMaker>(
 }
 
 /// The replies to the sessions of scripts.
-fn serve_scripts<R: Threads + Sync, M: ArrivalMaker>(
+fn serve_scripts<R: Threads + Wait + Sync, M: ArrivalMaker + Sync>(
     rt: &R,
     alloc: Global,
     base: Row,
@@ -78,7 +78,7 @@ fn serve_scripts<R: Threads + Sync, M: ArrivalMaker>(
     ensures { (seen : Seen) → MayEnd seen seen (Serves base.library base.netlist scripts.now) result }
 {
     let base = Arc::new(alloc, base)?;
-    let served = serve_in_turn(rt, alloc, base, scripts, maker, gate)?;
+    let served = serve_sessions(rt, alloc, base, scripts, maker, &gate)?;
     let text = serve_text(alloc, served.order.list(), served.replies.list())?;
     Ok(Written {
         text,
@@ -87,7 +87,7 @@ fn serve_scripts<R: Threads + Sync, M: ArrivalMaker>(
 }
 
 /// What the files come to.
-fn of_files<R: Threads + Sync, F: Shelf, M: ArrivalMaker>(
+fn of_files<R: Threads + Wait + Sync, F: Shelf, M: ArrivalMaker + Sync>(
     rt: &R,
     alloc: Global,
     shelf: &mut F,
@@ -107,7 +107,7 @@ fn of_files<R: Threads + Sync, F: Shelf, M: ArrivalMaker>(
 }
 
 /// What names of files and a number of workers come to.
-fn of_named<R: Threads + Sync, F: Shelf>(
+fn of_named<R: Threads + Wait + Sync, F: Shelf>(
     rt: &R,
     alloc: Global,
     shelf: &mut F,
@@ -135,7 +135,7 @@ fn of_named<R: Threads + Sync, F: Shelf>(
 }
 
 /// What the names of a library and a netlist, and the words behind them, come to.
-fn of_behind<R: Threads + Sync, F: Shelf>(
+fn of_behind<R: Threads + Wait + Sync, F: Shelf>(
     rt: &R,
     alloc: Global,
     shelf: &mut F,
@@ -157,7 +157,7 @@ fn of_behind<R: Threads + Sync, F: Shelf>(
 }
 
 /// What the words come to.
-pub(crate) fn of_words<R: Threads + Sync, F: Shelf>(
+pub(crate) fn of_words<R: Threads + Wait + Sync, F: Shelf>(
     rt: &R,
     alloc: Global,
     shelf: &mut F,

@@ -1,0 +1,14 @@
+//! The rows of statement calls, netlist files and lists of edits, as tests.
+//!
+//! It promises nothing itself: what the calls promise stands in `netlist_model`, `netlist_reader` and `edit_log`. The rows stand
+//! here, since the gate proves a crate twice where it has tests, and this one has nothing else.
+#![tactic(auto)]
+
+#[cfg(test)]
+mod edits;
+#[cfg(test)]
+mod files;
+#[cfg(test)]
+mod statements;
+#[cfg(test)]
+mod written;
