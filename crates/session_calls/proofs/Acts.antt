@@ -1,6 +1,6 @@
 -- What a turn in the hall does.
-use Rattle.std.proofs.Common.{◌≡◌, ℕ, zero, suc, ◌+◌, ◌-◌, ◌<◌, ◌≤◌, ◌==◌, ◌&&◌, ◌⊎◌, inl, inr, ⊎_elim, Bool, true, false, cond, List, [], ◌∷◌, ◌++◌, map, length, Option, Some, None, Result, Ok, Err, refl, sym, ap, ◌∙◌, subst, arith, Global}
-use Rattle.std.specs.Prelude.{MatchOption, slice_get, nat_lt, option_map, ⊤}
+use Rattle.std.proofs.Common.{◌≡◌, ℕ, ◌+◌, ◌<◌, ◌≤◌, ◌==◌, ◌&&◌, ◌⊎◌, inl, inr, ⊎_elim, Bool, true, false, cond, List, [], ◌∷◌, length, Option, Some, None, Result, Ok, Err, refl, sym, ap, ◌∙◌, subst, arith, Global}
+use Rattle.std.specs.Prelude.{slice_get, nat_lt, option_map}
 use Rattle.std.specs.Arc.{arc_value}
 use Rattle.std.specs.declared.sync.Arc.{Arc}
 use Rattle.std.proofs.lemmas.Bool.Decides.{nat_tests}
@@ -21,9 +21,7 @@ use Rattle.version_store.specs.Answers.{IsPin, answer_of}
 use Rattle.session_script.specs.Calls.{is_shared}
 use Rattle.session_script.specs.declared.calls.Call.{Call}
 use Rattle.session_script.specs.declared.calls.Call.TheVariants as call
-use Rattle.session_machine.specs.Table.{Holding, Act, Readings, open_fault, pinned, blocked, local, in_turn, only_replies, refuses, unless_refused, pinned_at, rebased, new_version, is_at}
-use Rattle.session_machine.specs.Table as table
-use Rattle.session_machine.specs.Versions.{newest}
+use Rattle.session_machine.specs.Table.{Holding, Act, open_fault, pinned, blocked, local, in_turn, only_replies, refuses, unless_refused, pinned_at, rebased, new_version, is_at}
 use Rattle.session_machine.specs.declared.replies.Reply.{Reply}
 use Rattle.session_machine.specs.declared.replies.Reply.TheVariants as reply
 use Rattle.session_machine.specs.declared.replies.Refusal.{Refusal}
@@ -36,7 +34,7 @@ use Rattle.session_calls.specs.declared.session.Ready.TheVariants as ready
 use Rattle.session_calls.specs.declared.session.Taken.{Taken}
 use Rattle.session_calls.specs.declared.session.Taken.TheVariants as taken
 use Rattle.session_calls.specs.States.{SessionState, holding_of, net_of, nets, rows, Knows, act_on}
-use Rattle.session_calls.specs.Turns.{stopped, IsNext, IsActOf, StandsIn, IsTaken, Entered, Turned, noted_act, base_number}
+use Rattle.session_calls.specs.Turns.{stopped, IsNext, IsTaken, Entered, Turned, noted_act, base_number}
 use Rattle.session_calls.proofs.Rows.{pinned_is, head_is, newest_is, rows_same, rows_more, head_row, last_row, one_library}
 
 not_lt : (a b : ℕ) → b ≤ a → nat_lt a b ≡ false

@@ -1,5 +1,5 @@
 -- What the machine does by a local call is read of the pinned row.
-use Rattle.std.proofs.Common.{◌≡◌, ℕ, List, [], ◌∷◌, ◌++◌, Option, Some, None, Result, Ok, Err, refl, sym, ap, ◌∙◌, subst}
+use Rattle.std.proofs.Common.{◌≡◌, ℕ, Option, Some, None, Ok, refl, sym}
 use Rattle.std.specs.Prelude.{MatchOption, ⊤, option_map}
 use Rattle.netlist_model.specs.Circuit.{event_of, fork_of}
 use Rattle.netlist_model.specs.Edits.{made}
@@ -11,12 +11,11 @@ use Rattle.session_script.specs.declared.calls.Call.{Call}
 use Rattle.session_script.specs.declared.calls.Call.TheVariants as call
 use Rattle.session_machine.specs.Table.{Holding, local, edit_added, found}
 use Rattle.session_machine.specs.Versions.{after}
-use Rattle.session_machine.specs.declared.replies.Reply.{Reply}
-use Rattle.session_machine.specs.declared.replies.Reply.TheVariants.{Period, Arrival, Slack, Report, Refused}
+use Rattle.session_machine.specs.declared.replies.Reply.TheVariants.{Period, Arrival, Slack, Report}
 use Rattle.session_machine.specs.declared.replies.Refusal.TheVariants.{NoEvent, NoFork}
 use Rattle.pinned_reader.specs.Rows.{RowState}
 use Rattle.query_replies.specs.Readings.{Analyses, readings, readings_in, read_of, cycle_reply}
-use Rattle.session_calls.specs.States.{SessionState, holding_of, net_of, library_at, finding_at, alone, IsOver, local_by}
+use Rattle.session_calls.specs.States.{SessionState, holding_of, library_at, finding_at, alone, IsOver, local_by}
 
 by_pin : (all : Analyses) (pin : Option (ℕ × RowState)) (has : Holding) (c : Call) → MatchOption pin ⊤ (λ p. p.1.library ≡ all.library)
     → MatchOption pin ⊤ (λ p. all.tell p.1.netlist ≡ Ok p.1.analysis)

@@ -1,4 +1,4 @@
-mod Rows
+pub mod Rows
 mod Alone
 mod Acts
 mod Drafts

@@ -1,7 +1,6 @@
 -- What is told of a draft before its turn.
-use Rattle.std.proofs.Common.{◌≡◌, ◌≢◌, ℕ, zero, suc, ◌==◌, Bool, true, false, List, [], ◌∷◌, length, Option, Some, None, Result, Ok, Err, refl, sym, ap, ◌∙◌, subst, arith}
+use Rattle.std.proofs.Common.{◌≡◌, ◌≢◌, ℕ, ◌==◌, false, List, [], ◌∷◌, length, Option, Some, None, Result, Ok, Err, refl, sym, ap, ◌∙◌, subst}
 use Rattle.std.specs.Prelude.{IfOk, option_map, MatchOption, ⊤}
-use Rattle.std.proofs.lemmas.Bool.Decides.{nat_tests}
 use Rattle.cell_arcs.specs.declared.cells.Cell.{Cell}
 use Rattle.netlist_model.specs.Circuit.{Circuit}
 use Rattle.netlist_model.specs.Edits.{edited}
@@ -18,7 +17,7 @@ use Rattle.session_machine.specs.declared.replies.Reply.TheVariants as reply
 use Rattle.pinned_reader.specs.Rows.{RowState, IsAfter}
 use Rattle.query_replies.specs.Readings.{Analyses, readings_in, refusal_in, net_refusal}
 use Rattle.session_calls.specs.declared.session.Held.{Held}
-use Rattle.session_calls.specs.Ahead.{row_of, IsAhead}
+use Rattle.session_calls.specs.Ahead.{ahead_of, row_of, IsAhead}
 use Rattle.session_calls.specs.declared.session.Ready.{Ready}
 use Rattle.session_calls.specs.declared.session.Ready.TheVariants as ready
 use Rattle.session_calls.specs.States.{SessionState, IsOver}
@@ -52,16 +51,16 @@ by_draft all c ahead (e ∷ es) some is = ap (λ d. refusal_in d.nets (all.tell 
 
 -- a draft is stopped by what is told of the netlist ahead
 pub stopped_by : (all : Analyses) (s : SessionState) (h : Held) → s.pin ≡ Some (h.pin.number, row_of h) → IsAhead s.draft h → (row_of h).library ≡ all.library → (length s.draft == 0) ≡ false
-    → stopped all s call.Publish ≡ refusal_in h.ahead.nets (all.tell h.ahead)
+    → stopped all s call.Publish ≡ refusal_in (ahead_of h).nets (all.tell (ahead_of h))
 stopped_by all s h pin ahead over some =
     let row : RowState = row_of h in
-    let made : after all.library row.netlist s.draft ≡ h.ahead = (λ i. after (sym over i) row.netlist s.draft) ∙ ap (or_before row.netlist) ahead.made in
+    let made : after all.library row.netlist s.draft ≡ ahead_of h = (λ i. after (sym over i) row.netlist s.draft) ∙ ap (or_before row.netlist) ahead.made in
     ap (λ (p : Option (ℕ × RowState)). blocked all.library (readings_in all) (option_map (λ q. q.1.netlist) p) s.draft call.Publish) pin
-    ∙ by_draft all row.netlist h.ahead s.draft some made
+    ∙ by_draft all row.netlist (ahead_of h) s.draft some made
 
 -- a draft that is not refused is ready with its row
 pub is_ready : {E : Type 0} (all : Analyses) (s : SessionState) (h : Held) (row : RowState) (answer : Result Ready E) → s.pin ≡ Some (h.pin.number, row_of h) → IsAhead s.draft h → (length s.draft == 0) ≡ false → IsOver all s
-    → row.edits ≡ s.draft → IsAfter row (row_of h) → (all.library ≡ (row_of h).library → refusal_in h.ahead.nets (all.tell h.ahead) ≡ None) → IfOk answer (IsOf row) → IfOk answer (λ r. IsReady all s call.Publish r)
+    → row.edits ≡ s.draft → IsAfter row (row_of h) → (all.library ≡ (row_of h).library → refusal_in (ahead_of h).nets (all.tell (ahead_of h)) ≡ None) → IfOk answer (IsOf row) → IfOk answer (λ r. IsReady all s call.Publish r)
 is_ready all s h row (Err e) pin ahead some over edits next told is = tt
 is_ready all s h row (Ok (ready.Pass r)) pin ahead some over edits next told is = absurd is
 is_ready all s h row (Ok ready.Latest) pin ahead some over edits next told is = absurd is
@@ -77,7 +76,7 @@ is_ready all s h row (Ok (ready.Publish a b)) pin ahead some over edits next tol
 
 -- and one that is refused passes with its refusal
 pub is_passed : (all : Analyses) (s : SessionState) (h : Held) (f : Refusal) (r : Ready) → s.pin ≡ Some (h.pin.number, row_of h) → IsAhead s.draft h → (length s.draft == 0) ≡ false → IsOver all s
-    → (all.library ≡ (row_of h).library → refusal_in h.ahead.nets (all.tell h.ahead) ≡ Some f) → r ≡ ready.Pass (reply.Refused f) → IsReady all s call.Publish r
+    → (all.library ≡ (row_of h).library → refusal_in (ahead_of h).nets (all.tell (ahead_of h)) ≡ Some f) → r ≡ ready.Pass (reply.Refused f) → IsReady all s call.Publish r
 is_passed all s h f r pin ahead some over told is =
     let library : (row_of h).library ≡ all.library = subst (λ (p : Option (ℕ × RowState)). MatchOption p ⊤ (λ q. q.1.library ≡ all.library)) pin over in
     subst (IsReady all s call.Publish) (sym is) (f, stopped_by all s h pin ahead library some ∙ told (sym library), refl)

@@ -16,10 +16,18 @@ use Rattle.session_calls.specs.declared.session.Held.{Held}
 abbrev pub row_of : Held → RowState
 row_of h = arc_value h.pin.row
 
+-- the netlist ahead: the one that was edited, or where no edit was tried the row's
+abbrev pub ahead_in : RowState → Option Circuit → Circuit
+ahead_in row None = row.netlist
+ahead_in row (Some c) = c
+
+abbrev pub ahead_of : Held → Circuit
+ahead_of h = ahead_in (row_of h) h.edited
+
 -- the draft makes the netlist ahead of the pinned row's, and it fits the row's library
 pub record IsAhead (draft : List Edit) (h : Held) : Type 0 where
-  pub made : edited (row_of h).library draft (row_of h).netlist ≡ Ok h.ahead
-  pub fits : Fits (row_of h).library h.ahead.insts
+  pub made : edited (row_of h).library draft (row_of h).netlist ≡ Ok (ahead_of h)
+  pub fits : Fits (row_of h).library (ahead_of h).insts
 
 -- so it is where something is held
 abbrev pub HoldsAhead : List Edit → Option Held → Type 0
@@ -40,22 +48,22 @@ Tried e None None r = r ≡ Some NotPinned
 Tried e None (Some k) r = ⊥
 Tried e (Some h) None r = ⊥
 Tried e (Some h) (Some k) r =
-    (k.pin ≡ h.pin) × (r ≡ edit_refusal (made (row_of h).library h.ahead e)) × (k.ahead ≡ edit_left h.ahead (made (row_of h).library h.ahead e))
+    (k.pin ≡ h.pin) × (r ≡ edit_refusal (made (row_of h).library (ahead_of h) e)) × (ahead_of k ≡ edit_left (ahead_of h) (made (row_of h).library (ahead_of h) e))
 
 -- the netlist ahead is the pinned one again
 abbrev pub Renewed : Option Held → Option Held → Type 0
 Renewed None None = ⊤
 Renewed None (Some k) = ⊥
 Renewed (Some h) None = ⊥
-Renewed (Some h) (Some k) = (k.pin ≡ h.pin) × (k.ahead ≡ (row_of h).netlist) × Fits (row_of h).library k.ahead.insts
+Renewed (Some h) (Some k) = (k.pin ≡ h.pin) × (ahead_of k ≡ (row_of h).netlist) × Fits (row_of h).library (ahead_of k).insts
 
--- what is held is pinned at another row
+-- what is held is pinned at another row, and what was edited stays
 abbrev pub Moved : Pinned → Option Held → Option Held → Type 0
 Moved pin None None = ⊤
 Moved pin None (Some k) = ⊥
 Moved pin (Some h) None = ⊥
-Moved pin (Some h) (Some k) = (k.pin ≡ pin) × (k.ahead ≡ h.ahead)
+Moved pin (Some h) (Some k) = (k.pin ≡ pin) × (k.edited ≡ h.edited)
 
 -- the netlist ahead fits where something is held
 abbrev pub FitsAhead : Option Held → Type 0
-FitsAhead held = MatchOption held ⊤ (λ h. Fits (row_of h).library h.ahead.insts)
+FitsAhead held = MatchOption held ⊤ (λ h. Fits (row_of h).library (ahead_of h).insts)

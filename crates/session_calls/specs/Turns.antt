@@ -1,5 +1,5 @@
 -- A shared call in its three steps: what it wants of the hall, what it got there, and what the session has then.
-use Rattle.std.specs.Prelude.{◌≡◌, ℕ, List, [], Option, Some, None, Ok, slice_get, option_map, ⊤}
+use Rattle.std.specs.Prelude.{◌≡◌, ℕ, List, [], Option, Some, None, slice_get, option_map, ⊤}
 use Rattle.std.specs.Arc.{arc_value}
 use Rattle.version_store.specs.declared.entry.HallAct.{HallAct}
 use Rattle.version_store.specs.declared.entry.HallAct.TheVariants as hall
@@ -8,7 +8,7 @@ use Rattle.version_store.specs.Halls.{noted}
 use Rattle.netlist_model.specs.Edits.{edited}
 use Rattle.session_script.specs.declared.calls.Call.{Call}
 use Rattle.session_script.specs.declared.calls.Call.TheVariants as call
-use Rattle.session_machine.specs.Table.{Holding, Act, blocked, only_replies, refuses, pinned_at, rebased, new_version}
+use Rattle.session_machine.specs.Table.{Act, blocked, only_replies, refuses, pinned_at, rebased, new_version}
 use Rattle.session_machine.specs.declared.replies.Reply.{Reply}
 use Rattle.session_machine.specs.declared.replies.Reply.TheVariants as reply
 use Rattle.session_machine.specs.declared.replies.Refusal.{Refusal}
@@ -19,7 +19,7 @@ use Rattle.session_calls.specs.declared.session.Ready.{Ready}
 use Rattle.session_calls.specs.declared.session.Ready.TheVariants as ready
 use Rattle.session_calls.specs.declared.session.Taken.{Taken}
 use Rattle.session_calls.specs.declared.session.Taken.TheVariants as taken
-use Rattle.session_calls.specs.States.{SessionState, holding_of, net_of, rows, nets, Knows, act_on}
+use Rattle.session_calls.specs.States.{SessionState, holding_of, net_of, rows, Knows}
 
 -- the first refusal that holds whatever the newest version is
 abbrev pub stopped : Analyses → SessionState → Call → Option Refusal

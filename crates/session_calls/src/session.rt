@@ -17,14 +17,15 @@ mod finish;
 mod local;
 mod prepare;
 
-/// A pinned row, and its netlist after the draft.
+/// A pinned row, and its netlist after the draft, once an edit was tried: until then the row's own netlist stands for it.
 #[derive(Drop)]
 struct Held {
     pin: Pinned,
-    ahead: Netlist,
+    edited: Option<Netlist>,
 }
 
-/// A session. With a pin it keeps the pinned netlist after its draft, so that an edit costs that edit alone.
+/// A session. With a pin it keeps the pinned netlist after its draft, so that an edit costs that edit alone, and the first one after a
+/// pin or a `drop` a copy of the netlist.
 #[derive(Drop)]
 pub struct Session {
     number: u16,

@@ -1,15 +1,15 @@
 -- All sessions of a book along one order.
-use Rattle.std.proofs.Common.{◌≡◌, ◌≢◌, ◌⊎◌, inl, inr, ⊎_elim, ℕ, suc, ◌+◌, ◌<◌, ◌≤◌, ◌==◌, Bool, cond, List, [], ◌∷◌, ◌++◌, map, length, Option, Some, refl, sym, ap, ◌∙◌, subst, arith}
+use Rattle.std.proofs.Common.{◌≡◌, inl, inr, ℕ, suc, ◌+◌, ◌≤◌, List, [], ◌∷◌, ◌++◌, map, length, Option, Some, refl, sym, ap, ◌∙◌, subst, arith}
 use Rattle.std.specs.List.{AllByRecursion as Every}
 use Rattle.std.proofs.lemmas.List.{append-nil}
 use mathlib.Core.Logic.{dite}
 use native.Mathlib.Decide.{dec_le}
 use Rattle.turn_book.specs.declared.view.Ended.{Ended}
-use Rattle.turn_book.specs.Views.{own, StartsWith, HasEndedAll}
+use Rattle.turn_book.specs.Views.{own, HasEndedAll}
 use Rattle.cell_arcs.specs.declared.cells.Cell.{Cell}
 use Rattle.session_script.specs.Calls.{is_shared}
 use Rattle.session_script.specs.declared.calls.Call.{Call}
-use Rattle.session_machine.specs.Orders.{times, shared_calls, script_of, IsOrder}
+use Rattle.session_machine.specs.Orders.{times, shared_calls, IsOrder}
 use Rattle.session_machine.specs.Machine.{given_by, replies_of}
 use Rattle.session_machine.specs.Machine as machine
 use Rattle.session_machine.specs.Alone.{views, order_of, places_of, given_at, own_from, all_own}

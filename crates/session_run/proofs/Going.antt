@@ -1,7 +1,6 @@
 -- A session goes on by a call.
-use Rattle.std.proofs.Common.{◌≡◌, ◌≢◌, ℕ, zero, suc, ◌+◌, ◌<◌, ◌==◌, Bool, true, false, cond, List, [], ◌∷◌, ◌++◌, map, length, Option, Some, None, refl, sym, ap, ◌∙◌, subst, arith, append_assoc}
-use Rattle.std.specs.List.{filter, filter_map, cons_option}
-use Rattle.std.specs.Option.{option_to_list}
+use Rattle.std.proofs.Common.{◌≡◌, ℕ, zero, suc, ◌==◌, true, false, cond, List, [], ◌∷◌, ◌++◌, map, Option, Some, None, refl, sym, ap, ◌∙◌, subst, append_assoc}
+use Rattle.std.specs.List.{filter, cons_option}
 use Rattle.std.specs.Prelude.{MatchOption, slice_get, option_map, ⊤}
 use Rattle.std.proofs.lemmas.List.{append-nil, map-append}
 use Rattle.std.proofs.lemmas.List.Elements.{filter-append, filter_map-append}
@@ -10,17 +9,17 @@ use Rattle.turn_book.specs.Views.{StartsWith, own}
 use Rattle.version_store.specs.Halls.{Chain, rows_of}
 use Rattle.session_script.specs.Calls.{is_shared}
 use Rattle.session_script.specs.declared.calls.Call.{Call}
-use Rattle.session_machine.specs.Machine.{Event, more, given_by, event, replies_of}
+use Rattle.session_machine.specs.Machine.{Event, more, given_by, event}
 use Rattle.session_machine.specs.Alone.{Place, places_of, given_at, views, own_from}
 use Rattle.session_machine.specs.Table.{Holding, Act, fresh, pinned, local, only_replies, unless_refused, blocked, in_turn, act}
 use Rattle.session_machine.specs.Versions.{Version, netlists, after, or_before}
 use Rattle.session_machine.specs.declared.replies.Reply.{Reply}
 use Rattle.pinned_reader.specs.Rows.{RowState, IsAfter}
 use Rattle.query_replies.specs.Readings.{Analyses, readings_in}
-use Rattle.session_calls.specs.States.{SessionState, holding_of, net_of, nets, Knows, act_on, local_by}
+use Rattle.session_calls.specs.States.{SessionState, holding_of, nets, Knows, act_on, local_by}
 use Rattle.session_calls.specs.Turns.{Finishes}
 use Rattle.session_run.proofs.Numbers.{same_number}
-use Rattle.session_run.proofs.Pins.{pinned_is}
+use Rattle.session_calls.proofs.Rows.{pinned_is}
 use Rattle.session_run.specs.Items.{Item, session_of, place_of, places_in, acts_in}
 use Rattle.session_run.specs.Going.{Told, machine_at, nets_at, rows_at, IsGoing}
 use Rattle.session_run.specs.Acts.{noted_by, step_over, acts_from}

@@ -1,5 +1,5 @@
 -- All sessions in turn, along one order.
-use Rattle.std.proofs.Common.{◌≡◌, ◌≢◌, ◌⊎◌, inl, inr, ⊎_elim, ℕ, zero, suc, ◌+◌, ◌-◌, ◌<◌, ◌≤◌, ◌==◌, Bool, true, false, cond, List, [], ◌∷◌, ◌++◌, map, length, drop, get_or, Option, Some, None, refl, sym, ap, ◌∙◌, subst, arith}
+use Rattle.std.proofs.Common.{◌≡◌, inl, inr, ℕ, suc, ◌+◌, ◌<◌, ◌≤◌, cond, List, [], ◌∷◌, map, length, drop, get_or, refl, sym, ap, ◌∙◌, subst, arith}
 use Rattle.std.specs.List.{AllByRecursion as Every}
 use Rattle.std.proofs.lemmas.List.{append-nil}
 use Rattle.std.proofs.Math.ListN.{drop_of_length-le}
@@ -8,14 +8,12 @@ use native.Mathlib.Decide.{dec_le, ℕ_discrete}
 use Rattle.cell_arcs.specs.declared.cells.Cell.{Cell}
 use Rattle.session_script.specs.Calls.{is_shared}
 use Rattle.session_script.specs.declared.calls.Call.{Call}
-use Rattle.session_machine.specs.Orders.{times, shared_calls, script_from, script_of, IsOrder}
+use Rattle.session_machine.specs.Orders.{times, shared_calls, script_from, IsOrder}
 use Rattle.session_machine.specs.Machine.{given_by, replies_of}
 use Rattle.session_machine.specs.Machine as machine
 use Rattle.session_machine.specs.Alone.{views, order_of, places_of, given_at, own, own_from, all_own}
-use Rattle.session_machine.specs.Laws.{IsOneOrder}
 use Rattle.session_machine.specs.Sessions.{SessionsAreOneOrder, sessions}
 use Rattle.session_machine.specs.Table.{fresh}
-use Rattle.session_machine.specs.declared.replies.Reply.{Reply}
 use Rattle.session_run.proofs.Numbers.{same_number, other_number}
 use Rattle.session_run.proofs.Numbers.{none_outside, none_before}
 use Rattle.pinned_reader.specs.Rows.{RowState}
@@ -25,7 +23,7 @@ use Rattle.session_run.specs.declared.players.Player.{Player}
 use Rattle.session_run.specs.Items.{Item, session_of, places_in}
 use Rattle.session_run.specs.Going.{machine_at}
 use Rattle.session_run.specs.Playing.{IsPlaying}
-use Rattle.session_run.specs.InTurn.{Sits, AreSeated, AreKnown}
+use Rattle.session_run.specs.InTurn.{AreSeated, AreKnown}
 use Rattle.session_run.specs.Jobs.{Each}
 use Rattle.session_run.proofs.Counts.{times_own, times_outside}
 

@@ -1,5 +1,5 @@
 -- Sessions that are split from a book, and joined again.
-use Rattle.std.proofs.Common.{◌≡◌, ◌⊎◌, inl, inr, ⊎_elim, ℕ, suc, ◌+◌, ◌<◌, ◌≤◌, ◌==◌, cond, List, [], ◌∷◌, ◌++◌, length, take, drop, Option, Some, refl, sym, ap, ◌∙◌, subst, arith, append_assoc, drop-cons, get_or, add-one}
+use Rattle.std.proofs.Common.{◌≡◌, inl, inr, ⊎_elim, ℕ, suc, ◌+◌, ◌<◌, ◌≤◌, ◌==◌, cond, List, [], ◌∷◌, ◌++◌, length, drop, Option, refl, sym, ap, ◌∙◌, subst, arith, append_assoc, drop-cons, get_or, add-one}
 use Rattle.std.specs.List.{AllZip, AllByRecursion as Every}
 use Rattle.turn_book.specs.declared.view.Ended.{Ended}
 use Rattle.turn_book.specs.Views.{own, StartsWith, newcomer, one_if, times_ended}
@@ -8,16 +8,15 @@ use Rattle.version_store.specs.Turns.{HasCalls}
 use Rattle.session_script.specs.Calls.{is_shared}
 use Rattle.session_script.specs.declared.calls.Call.{Call}
 use Rattle.session_machine.specs.Orders.{shared_calls}
-use Rattle.query_replies.specs.Readings.{Analyses}
 use Rattle.session_run.specs.declared.threads.jobs.Job.{Job}
 use Rattle.session_run.specs.declared.threads.jobs.Done.{Done}
 use Rattle.session_run.specs.declared.threads.ran.Ran.{Ran}
 use Rattle.session_run.specs.Items.{Item, session_of}
 use Rattle.session_run.specs.InTurn.{calls_of}
-use Rattle.session_run.specs.Seats.{Origin, SeatView, IsAtRest, IsKnown, StartsFrom}
+use Rattle.session_run.specs.Seats.{Origin, SeatView, IsAtRest, IsKnown}
 use Rattle.session_run.specs.Serving.{HasServed}
 use Rattle.session_run.proofs.Numbers.{same_number}
-use Rattle.session_run.specs.Jobs.{Halls, IsFresh, IsReadyJob, IsEnded, IsJob, Served, IsDone, IsJoined, IsIn, Each, Joining}
+use Rattle.session_run.specs.Jobs.{Halls, IsFresh, IsReadyJob, IsEnded, IsJob, IsDone, IsJoined, IsIn, Each, Joining}
 
 pub each_more : {A : Type 0} (P : ℕ → List Call → A → Type 0) (n : ℕ) (xs : List (List Call)) (ys : List A) (x : List Call) (y : A) → Each P n xs ys → P (n + length xs) x y → Each P n (xs ++ x ∷ []) (ys ++ y ∷ [])
 each_more P n [] [] x y r p = (let e : n + 0 ≡ n = omega arith in subst (λ k. P k x y) e p, tt)

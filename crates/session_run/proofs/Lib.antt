@@ -4,7 +4,6 @@ mod Counts
 mod Seated
 mod InTurns
 mod Numbers
-mod Pins
 mod Written
 mod Serving
 mod Halves

@@ -1,21 +1,18 @@
 -- What a call notes is what its session wants.
-use Rattle.std.proofs.Common.{◌≡◌, ℕ, List, map, Option, Some, None, refl, sym, ap, ◌∙◌}
+use Rattle.std.proofs.Common.{◌≡◌, ℕ, List, Option, Some, None, refl, sym, ap, ◌∙◌}
 use Rattle.std.specs.Prelude.{option_map}
-use Rattle.version_store.specs.declared.entry.HallAct.{HallAct}
 use Rattle.version_store.specs.declared.entry.HallAct.TheVariants as hall
 use Rattle.netlist_model.specs.Circuit.{Circuit}
 use Rattle.session_script.specs.declared.calls.Call.{Call}
-use Rattle.session_script.specs.declared.calls.Call.TheVariants as call
 use Rattle.session_machine.specs.Table.{blocked}
-use Rattle.session_machine.specs.declared.replies.Refusal.{Refusal}
 use Rattle.pinned_reader.specs.Rows.{RowState}
 use Rattle.query_replies.specs.Readings.{Analyses, readings_in}
 use Rattle.session_calls.specs.declared.session.Ready.{Ready}
 use Rattle.session_calls.specs.declared.session.Ready.TheVariants as ready
-use Rattle.session_calls.specs.States.{SessionState, holding_of, net_of, nets, Knows}
+use Rattle.session_calls.specs.States.{SessionState, holding_of, nets, Knows}
 use Rattle.session_calls.specs.Turns.{IsReady, stopped, noted_act, base_number}
 use Rattle.session_run.specs.Acts.{base_at, noted_at, noted_by}
-use Rattle.session_run.proofs.Pins.{pinned_is}
+use Rattle.session_calls.proofs.Rows.{pinned_is}
 
 base_is : (pin : Option (ℕ × RowState)) → base_number pin ≡ base_at (option_map (λ p. p.0) pin)
 base_is None = refl

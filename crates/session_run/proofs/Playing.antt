@@ -1,10 +1,10 @@
 -- A session plays.
-use Rattle.std.proofs.Common.{◌≡◌, ◌≢◌, ℕ, suc, ◌+◌, ◌-◌, ◌<◌, ◌≤◌, ◌==◌, Bool, true, false, cond, List, [], ◌∷◌, ◌++◌, map, length, Option, Some, None, Result, Ok, Err, refl, sym, ap, ◌∙◌, subst, arith, append_assoc, length-append}
+use Rattle.std.proofs.Common.{◌≡◌, ◌≢◌, ℕ, suc, ◌+◌, ◌-◌, ◌<◌, ◌==◌, Bool, true, false, cond, List, [], ◌∷◌, ◌++◌, length, Option, Some, None, Result, Ok, Err, refl, sym, ap, ◌∙◌, subst, arith, length-append}
 use Rattle.std.specs.List.{filter, AllByRecursion as Every}
 use Rattle.std.specs.Prelude.{MatchOption, slice_get, option_map, ⊤, IfOk, OnOk}
 use Rattle.std.proofs.lemmas.List.{append-nil, map-append}
 use Rattle.std.proofs.lemmas.List.Elements.{filter-append}
-use Rattle.turn_book.specs.Views.{StartsWith, own}
+use Rattle.turn_book.specs.Views.{own}
 use Rattle.version_store.specs.declared.entry.HallAct.{HallAct}
 use Rattle.version_store.specs.declared.state.HallState.{HallState}
 use Rattle.version_store.specs.Halls.{Chain, rows_of, item, noted}
@@ -12,7 +12,7 @@ use Rattle.session_script.specs.Calls.{is_shared}
 use Rattle.session_script.specs.declared.calls.Call.{Call}
 use Rattle.session_machine.specs.Machine.{Event, replies_of}
 use Rattle.session_machine.specs.Orders.{shared_calls}
-use Rattle.session_machine.specs.Alone.{views, places_of, given_at, own_from}
+use Rattle.session_machine.specs.Alone.{given_at, own_from}
 use Rattle.session_machine.specs.Table.{fresh, pinned}
 use Rattle.session_machine.specs.Versions.{Version}
 use Rattle.session_machine.specs.declared.replies.Reply.{Reply}
@@ -20,12 +20,12 @@ use Rattle.session_run.proofs.Numbers.{same_number, other_number}
 use Rattle.pinned_reader.specs.Rows.{RowState, IsAfter}
 use Rattle.query_replies.specs.Readings.{Analyses}
 use Rattle.session_calls.specs.declared.session.Ready.{Ready}
-use Rattle.session_calls.specs.States.{SessionState, holding_of, net_of, rows, Knows, act_on, local_by}
+use Rattle.session_calls.specs.States.{SessionState, holding_of, rows, act_on, local_by}
 use Rattle.session_calls.specs.Turns.{Finishes, Entered, noted_act}
-use Rattle.session_run.specs.Items.{Item, session_of, place_of, places_in}
-use Rattle.session_run.specs.Going.{Told, machine_at, nets_at, rows_at, IsGoing}
+use Rattle.session_run.specs.Items.{Item, session_of}
+use Rattle.session_run.specs.Going.{Told, machine_at, nets_at, rows_at}
 use Rattle.session_run.specs.Playing.{IsPlaying, Plays, DidShared, DidLocal, Did}
-use Rattle.session_run.proofs.Going.{going_local, going_turn, knows_later, seen_views, seen_places, places_own}
+use Rattle.session_run.proofs.Going.{going_local, going_turn, knows_later, seen_views, seen_places}
 
 none_other : (n m : ℕ) (new : List Item) → Every (λ e. session_of e ≡ m) new → m ≢ n → own session_of n new ≡ []
 none_other n m [] e d = refl

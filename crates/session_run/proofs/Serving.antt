@@ -1,11 +1,10 @@
 -- A session's seat, call by call.
-use Rattle.std.proofs.Common.{◌≡◌, ℕ, zero, suc, ◌+◌, ◌-◌, ◌<◌, ◌≤◌, ◌==◌, Bool, true, false, cond, List, [], ◌∷◌, ◌++◌, map, length, Option, Some, None, refl, sym, ap, ◌∙◌, subst, arith, append_assoc, drop, drop-cons, length-append}
-use Rattle.std.specs.List.{filter}
+use Rattle.std.proofs.Common.{◌≡◌, ℕ, suc, ◌+◌, ◌<◌, ◌≤◌, ◌==◌, true, false, cond, List, [], ◌∷◌, ◌++◌, length, Option, Some, None, refl, sym, ap, ◌∙◌, subst, arith, drop, drop-cons, length-append}
 use Rattle.std.specs.Prelude.{MatchOption, slice_get, slice_index_or, option_map, ⊤}
-use Rattle.std.proofs.lemmas.List.{append-nil, map-append}
+use Rattle.std.proofs.lemmas.List.{append-nil}
 use Rattle.std.proofs.lemmas.List.Elements.{filter-append}
-use Rattle.turn_book.specs.Views.{StartsWith, own, after_turn}
-use Rattle.version_store.specs.Halls.{Chain, rows_of}
+use Rattle.turn_book.specs.Views.{own}
+use Rattle.version_store.specs.Halls.{rows_of}
 use Rattle.session_script.specs.Calls.{is_shared}
 use Rattle.session_script.specs.declared.calls.Call.{Call}
 use Rattle.session_machine.specs.Machine.{Event, given_by, replies_of}
@@ -14,17 +13,17 @@ use Rattle.session_machine.specs.Orders.{shared_calls}
 use Rattle.session_machine.specs.Table.{fresh, pinned}
 use Rattle.session_machine.specs.Versions.{Version}
 use Rattle.session_machine.specs.declared.replies.Reply.{Reply}
-use Rattle.pinned_reader.specs.Rows.{RowState, IsAfter}
+use Rattle.pinned_reader.specs.Rows.{RowState}
 use Rattle.query_replies.specs.Readings.{Analyses}
-use Rattle.session_calls.specs.States.{SessionState, holding_of, Knows, IsOver, act_on, local_by}
+use Rattle.session_calls.specs.States.{SessionState, holding_of, act_on, local_by}
 use Rattle.session_run.specs.Items.{Item, session_of, places_in, acts_in, positions}
 use Rattle.session_run.specs.Acts.{acts_from}
-use Rattle.session_run.specs.Going.{Told, machine_at, nets_at, rows_at, IsGoing}
+use Rattle.session_run.specs.Going.{machine_at, nets_at, rows_at, IsGoing}
 use Rattle.session_run.specs.Seats.{Origin, SeatView, TookTurn}
 use Rattle.session_run.specs.Serving.{IsActing, IsServing, HasServed}
 use Rattle.session_run.proofs.Going.{acting_local, acting_turn, views_none, places_own}
 use Rattle.session_run.proofs.Numbers.{same_number}
-use Rattle.session_run.proofs.Pins.{over_rows}
+use Rattle.session_calls.proofs.Rows.{over_rows}
 use Rattle.session_run.proofs.Playing.{calls_shared, replies_more}
 
 -- what comes after has nothing of a session

@@ -2,7 +2,6 @@
 use Rattle.std.specs.Prelude.{◌≡◌, ◌⊎◌, ℕ, ◌+◌, ◌≤◌, List, [], ◌∷◌, Option, Some, ⊤}
 use Rattle.std.specs.List.{AllByRecursion as Every}
 use Rattle.turn_book.specs.declared.book.Book.{Book}
-use Rattle.turn_book.specs.declared.view.Ended.{Ended}
 use Rattle.turn_book.specs.declared.view.Role.TheVariants.{Opening}
 use Rattle.turn_book.specs.Views.{own, StartsWith}
 use Rattle.turn_book.specs.Seats.{view, IsSeatOf}
@@ -16,13 +15,12 @@ use Rattle.session_machine.specs.Machine as machine
 use Rattle.session_machine.specs.Orders.{shared_calls, IsOrder}
 use Rattle.session_machine.specs.declared.replies.Reply.{Reply}
 use Rattle.pinned_reader.specs.declared.rows.Row.{Row}
-use Rattle.pinned_reader.specs.Rows.{RowState}
 use Rattle.query_replies.specs.Readings.{Analyses}
 use Rattle.session_run.specs.declared.threads.jobs.Job.{Job}
 use Rattle.session_run.specs.declared.threads.jobs.Done.{Done}
 use Rattle.session_run.specs.declared.threads.ran.Ran.{Ran}
 use Rattle.session_run.specs.Going.{machine_at}
-use Rattle.session_run.specs.Items.{Item, session_of, places_in}
+use Rattle.session_run.specs.Items.{session_of, places_in}
 use Rattle.session_run.specs.Seats.{Origin, SeatView, IsAtRest, IsKnown, StartsFrom}
 use Rattle.session_run.specs.Serving.{HasServed}
 

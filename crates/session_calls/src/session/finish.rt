@@ -1,16 +1,15 @@
 //! What a shared call does after its turn.
-ghost use Rattle.std.specs.Prelude.{◌≡◌, List, [], Some, ◌≢◌, OnErr, OnOk, IfOk, IfErr, Ok, Err, slice_get};
+ghost use Rattle.std.specs.Prelude.{◌≡◌, List, [], Some, ◌≢◌, OnErr, IfOk, IfErr, Ok, Err, slice_get};
 ghost use Rattle.std.specs.Arc.{arc_value};
 ghost use Rattle.netlist_model.specs.Edits.{edited};
 ghost use Rattle.netlist_model.specs.Sound.{Fits};
 ghost use Rattle.session_machine.specs.Table.{Act, rebased};
 ghost use Rattle.session_machine.specs.declared.replies.Reply.TheVariants as reply;
 ghost use Rattle.pinned_reader.specs.Rows.{RowState};
-ghost use Rattle.session_calls.specs.Ahead.{Moved};
+ghost use Rattle.session_calls.specs.Ahead.{ahead_in, Moved};
 ghost use Rattle.session_calls.specs.States.{SessionState, holding_of};
 ghost use Rattle.session_calls.specs.Turns.{IsActOf, IsNext, IsTaken, Finishes};
 
-use super::local::copy_of;
 use super::{Held, Session, Taken};
 use edit_log::{EditFault, apply};
 use netlist_model::{Edit, Netlist};
@@ -21,7 +20,7 @@ use std::sync::Arc;
 use version_store::Pin;
 
 impl Session {
-    /// The reply to what was taken, and the session with it. A pin costs a copy of the row's netlist, a rebase the draft on such a copy.
+    /// The reply to what was taken, and the session with it. A rebase of a draft costs a copy of the row's netlist and the draft on it.
     /// `AllocError` only for want of memory, and then the session is as it was.
     pub fn finish(&mut self, taken: Taken) -> Result<Reply, AllocError>
         requires { (m : Act) × IsActOf self.old taken m }
@@ -30,7 +29,7 @@ impl Session {
     {
         match taken {
             Taken::Pass(reply) => Ok(reply),
-            Taken::Pinned(pin) => self.pinned(pin),
+            Taken::Pinned(pin) => Ok(self.pinned(pin)),
             Taken::NoVersion(head) => Ok(Reply::Refused(Refusal::NoVersion(u64::from(head)))),
             Taken::Rebase(pin) => self.rebased(pin),
             Taken::Published(number, row) => Ok(self.published(number, row)),
@@ -41,16 +40,15 @@ impl Session {
     }
 
     /// The session has this pin.
-    fn pinned(&mut self, pin: Pin<Row>) -> Result<Reply, AllocError>
+    fn pinned(&mut self, pin: Pin<Row>) -> Reply
         requires { self.old.draft ≡ [] }
-        ensures ok { IfOk result (λ r. r ≡ reply.Pinned pin.number) }
-        ensures held { OnOk result (self.new ≡ record { number = self.old.number; pin = Some (pin.number, arc_value pin.row); draft = self.old.draft }) }
-        ensures unchanged { OnErr result (self.new ≡ self.old) }
+        ensures reply { result ≡ reply.Pinned pin.number }
+        ensures held { self.new ≡ record { number = self.old.number; pin = Some (pin.number, arc_value pin.row); draft = self.old.draft } }
     {
-        let ahead = copy_of(&pin.row)?;
+        pin.row.right();
         let number = u64::from(pin.number);
-        self.held = Some(held_of(pin, ahead));
-        Ok(Reply::Pinned(number))
+        self.held = Some(held_of(pin, None));
+        Reply::Pinned(number)
     }
 
     /// The session has this pin, if its draft goes there.
@@ -61,9 +59,9 @@ impl Session {
         ensures unchanged { OnErr result (self.new ≡ self.old) }
     {
         match draft_on(&pin.row, self.draft.as_slice()) {
-            Ok(ahead) => {
+            Ok(edited) => {
                 let number = u64::from(pin.number);
-                self.held = Some(held_of(pin, ahead));
+                self.held = Some(held_of(pin, edited));
                 Ok(Reply::Rebased(number))
             }
             Err(EditFault::At(at, fault)) => Ok(Reply::Refused(Refusal::Edit(at as u64, fault))),
@@ -85,18 +83,32 @@ impl Session {
 }
 
 /// A pin, and the netlist after the draft there.
-fn held_of(pin: Pin<Row>, ahead: Netlist) -> Held
-    ensures { result ≡ record { pin = record { number = pin.number; row = pin.row }; ahead = ahead } }
+fn held_of(pin: Pin<Row>, edited: Option<Netlist>) -> Held
+    ensures { result ≡ record { pin = record { number = pin.number; row = pin.row }; edited = edited } }
 {
     let pin = Pinned {
         number: pin.number,
         row: pin.row,
     };
-    Held { pin, ahead }
+    Held { pin, edited }
 }
 
-/// The netlist that the draft makes of the row's.
-fn draft_on(row: &Row, draft: &[Edit]) -> Result<Netlist, EditFault>
+/// The netlist that the draft makes of the row's, where it has an edit.
+fn draft_on(row: &Row, draft: &[Edit]) -> Result<Option<Netlist>, EditFault>
+    ensures made { IfOk result (λ n. edited row.now.library draft.now row.now.netlist ≡ Ok (ahead_in row.now n)) }
+    ensures fits { IfOk result (λ n. Fits row.now.library (ahead_in row.now n).insts) }
+    ensures refused { IfErr result (λ e. e ≢ EditFault.Memory → edited row.now.library draft.now row.now.netlist ≡ Err e) }
+{
+    if draft.is_empty() {
+        row.right();
+        return Ok(None);
+    }
+    let edited = after_draft(row, draft)?;
+    Ok(Some(edited))
+}
+
+/// A copy of the row's netlist after the draft.
+fn after_draft(row: &Row, draft: &[Edit]) -> Result<Netlist, EditFault>
     ensures made { IfOk result (λ n. edited row.now.library draft.now row.now.netlist ≡ Ok n) }
     ensures fits { IfOk result (λ n. Fits row.now.library n.insts) }
     ensures refused { IfErr result (λ e. e ≢ EditFault.Memory → edited row.now.library draft.now row.now.netlist ≡ Err e) }

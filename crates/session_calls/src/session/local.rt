@@ -5,7 +5,7 @@ ghost use Rattle.session_script.specs.Calls.{is_shared};
 ghost use Rattle.session_script.specs.declared.calls.Call.TheVariants as call;
 ghost use Rattle.query_replies.specs.Readings.{Analyses};
 ghost use Rattle.netlist_model.specs.Edits.{made};
-ghost use Rattle.session_calls.specs.Ahead.{edit_left, edit_refusal, FitsAhead, Renewed, Tried};
+ghost use Rattle.session_calls.specs.Ahead.{ahead_in, edit_left, edit_refusal, FitsAhead, Renewed, Tried};
 ghost use Rattle.session_calls.specs.States.{alone, holding_of, IsOver, local_by};
 
 use super::{Held, Session};
@@ -20,8 +20,8 @@ use session_script::Call;
 use std::alloc::{AllocError, Global};
 
 impl Session {
-    /// A local call: an edit, `drop`, `draft` or a query. An edit costs that edit, `drop` of a draft a copy of the pinned netlist, a
-    /// query what it tells. `AllocError` only for want of memory, and then the session is as it was.
+    /// A local call: an edit, `drop`, `draft` or a query. An edit costs that edit, and the first one after a pin or a `drop` a copy of
+    /// the pinned netlist; a query costs what it tells. `AllocError` only for want of memory, and then the session is as it was.
     pub fn step_local(&mut self, alloc: Global, call: &Call) -> Result<Reply, AllocError>
         requires { is_shared call.now ≡ false }
         ensures reply { (all : Analyses) → IsOver all self.old → IfOk result (λ r. r ≡ (local_by all self.old call.now).1) }
@@ -52,7 +52,7 @@ impl Session {
     {
         match call {
             Call::Make(edit) => self.make(edit),
-            Call::Drop => self.drop_draft(),
+            Call::Drop => Ok(self.drop_draft()),
             Call::Draft => Ok(Reply::Draft(self.draft.len() as u64)),
             Call::Period => Ok(self.period()),
             Call::Cycle => self.cycle(alloc),
@@ -81,18 +81,17 @@ impl Session {
     }
 
     /// No draft.
-    fn drop_draft(&mut self) -> Result<Reply, AllocError>
-        ensures reply { IfOk result (λ r. r ≡ (alone self.old call.Drop).1) }
-        ensures session { OnOk result (holding_of self.new ≡ (alone self.old call.Drop).0) }
+    fn drop_draft(&mut self) -> Reply
+        ensures reply { result ≡ (alone self.old call.Drop).1 }
+        ensures session { holding_of self.new ≡ (alone self.old call.Drop).0 }
         ensures pin { (self.new.pin ≡ self.old.pin) × (self.new.number ≡ self.old.number) }
-        ensures unchanged { OnErr result (self.new ≡ self.old) }
     {
         let length = self.draft.len() as u64;
         if length > 0 {
-            renew(&mut self.held)?;
+            renew(&mut self.held);
             self.draft.clear();
         }
-        Ok(Reply::Dropped(length))
+        Reply::Dropped(length)
     }
 
     fn period(&self) -> Reply
@@ -168,13 +167,36 @@ fn make_ahead(held: &mut Option<Held>, edit: &Edit) -> Result<Option<Refusal>, A
     ensures fits { FitsAhead held.new }
 {
     match held {
-        Some(held) => make_over(&held.pin.row.library, &mut held.ahead, edit),
+        Some(held) => make_on(&held.pin.row, &mut held.edited, edit),
         None => Ok(Some(Refusal::NotPinned)),
     }
 }
 
+/// Makes an edit on what was edited of a row's netlist, or on a copy of it. Answers why it is refused, if it is.
+fn make_on(
+    row: &Row,
+    edited: &mut Option<Netlist>,
+    edit: &Edit,
+) -> Result<Option<Refusal>, AllocError>
+    requires { Fits row.now.library (ahead_in row.now edited.old).insts }
+    ensures refusal { IfOk result (λ r. r ≡ edit_refusal (made row.now.library (ahead_in row.now edited.old) edit.now)) }
+    ensures left { OnOk result (ahead_in row.now edited.new ≡ edit_left (ahead_in row.now edited.old) (made row.now.library (ahead_in row.now edited.old) edit.now)) }
+    ensures unchanged { OnErr result (edited.new ≡ edited.old) }
+    ensures fits { Fits row.now.library (ahead_in row.now edited.new).insts }
+{
+    match edited {
+        Some(netlist) => make_over(&row.library, netlist, edit),
+        None => {
+            let mut copy = copy_of(row)?;
+            let refusal = make_over(&row.library, &mut copy, edit)?;
+            *edited = Some(copy);
+            Ok(refusal)
+        }
+    }
+}
+
 /// Another netlist like the row's.
-pub(super) fn copy_of(row: &Row) -> Result<Netlist, AllocError>
+fn copy_of(row: &Row) -> Result<Netlist, AllocError>
     ensures netlist { IfOk result (λ n. n ≡ row.now.netlist) }
     ensures fits { IfOk result (λ n. Fits row.now.library n.insts) }
 {
@@ -183,12 +205,11 @@ pub(super) fn copy_of(row: &Row) -> Result<Netlist, AllocError>
 }
 
 /// The netlist ahead is the pinned one again.
-fn renew(held: &mut Option<Held>) -> Result<(), AllocError>
-    ensures renewed { OnOk result (Renewed held.old held.new) }
-    ensures unchanged { OnErr result (held.new ≡ held.old) }
+fn renew(held: &mut Option<Held>)
+    ensures { Renewed held.old held.new }
 {
     if let Some(held) = held {
-        held.ahead = copy_of(&held.pin.row)?;
+        held.pin.row.right();
+        held.edited = None;
     }
-    Ok(())
 }

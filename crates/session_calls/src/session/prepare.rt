@@ -6,7 +6,7 @@ ghost use Rattle.session_script.specs.Calls.{is_shared};
 ghost use Rattle.session_script.specs.declared.calls.Call.TheVariants as call;
 ghost use Rattle.session_machine.specs.declared.replies.Reply.TheVariants.{Refused};
 ghost use Rattle.query_replies.specs.Readings.{Analyses, refusal_in};
-ghost use Rattle.session_calls.specs.Ahead.{IsAhead, row_of};
+ghost use Rattle.session_calls.specs.Ahead.{ahead_of, IsAhead, row_of};
 ghost use Rattle.session_calls.specs.declared.session.Ready.TheVariants.{Pass};
 ghost use Rattle.session_calls.specs.States.{IsOver};
 ghost use Rattle.session_calls.specs.Turns.{IsOf, IsReady};
@@ -69,9 +69,9 @@ fn draft_after<R: Threads + Sync, M: ArrivalMaker>(
     requires { IsAhead draft.now held.now }
     ensures row { IfOk result (λ r. IfOk r (λ row. (row.edits ≡ draft.now) × IsAfter row (row_of held.now))) }
     ensures accepted { (all : Analyses) → all.library ≡ (row_of held.now).library →
-        IfOk result (λ r. IfOk r (λ row. refusal_in held.now.ahead.nets (all.tell held.now.ahead) ≡ None)) }
+        IfOk result (λ r. IfOk r (λ row. refusal_in (ahead_of held.now).nets (all.tell (ahead_of held.now)) ≡ None)) }
     ensures refused { (all : Analyses) → all.library ≡ (row_of held.now).library →
-        IfOk result (λ r. IfErr r (λ f. refusal_in held.now.ahead.nets (all.tell held.now.ahead) ≡ Some f)) }
+        IfOk result (λ r. IfErr r (λ f. refusal_in (ahead_of held.now).nets (all.tell (ahead_of held.now)) ≡ Some f)) }
 {
     match Row::next(rt, alloc, &held.pin.row, draft, maker) {
         Ok(row) => {
@@ -79,8 +79,20 @@ fn draft_after<R: Threads + Sync, M: ArrivalMaker>(
             Ok(Ok(row))
         }
         Err(fault) => {
-            let refusal = fault_told(alloc, &held.pin.row.library, &held.ahead, &fault)?;
+            let refusal = fault_told(alloc, &held.pin.row.library, held.ahead(), &fault)?;
             Ok(Err(refusal))
+        }
+    }
+}
+
+impl Held {
+    /// The pinned netlist after the draft.
+    fn ahead(&self) -> &Netlist
+        ensures { result.now ≡ ahead_of self.now }
+    {
+        match &self.edited {
+            Some(netlist) => netlist,
+            None => &self.pin.row.netlist,
         }
     }
 }

@@ -1,4 +1,4 @@
-use Rattle.std.proofs.Common.{◌≡◌, ◌+◌, ◌++◌, ◌∷◌, [], ℕ, List, length, get_or, sym, ap, ◌∙◌, subst, arith, length-append, None}
+use Rattle.std.proofs.Common.{◌+◌, ◌∷◌, [], ℕ, List, length, get_or, sym, ap, ◌∙◌, subst, arith, length-append, None}
 use Rattle.session_calls.specs.States.{SessionState}
 use Rattle.session_run.specs.declared.players.Player.{Player}
 use Rattle.session_run.specs.InTurn.{Sits}

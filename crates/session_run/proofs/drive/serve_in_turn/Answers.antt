@@ -1,13 +1,12 @@
-use Rattle.std.proofs.Common.{◌≡◌, ◌≤◌, ◌<◌, ◌+◌, ℕ, List, length, map, get_or, sym, ap, ◌∙◌, subst, refl, arith}
+use Rattle.std.proofs.Common.{◌≡◌, ◌+◌, ℕ, List, length, sym, ap, ◌∙◌, subst, refl, arith}
 use Rattle.std.specs.Arc.{arc_value}
 use Rattle.version_store.specs.declared.state.HallState.{HallState}
-use Rattle.session_script.specs.declared.calls.Call.{Call}
 use Rattle.session_machine.specs.declared.replies.Reply.{Reply}
 use Rattle.pinned_reader.specs.Rows.{RowState}
 use Rattle.query_replies.specs.Served.{AreServed}
 use Rattle.session_run.specs.declared.players.Player.{Player}
 use Rattle.session_run.specs.Items.{Item}
-use Rattle.session_run.specs.InTurn.{AreSeated, AreReady, AreKnown, calls_of}
+use Rattle.session_run.specs.InTurn.{AreSeated, AreKnown, calls_of}
 use Rattle.session_run.proofs.InTurns.{all_served}
 use Rattle.session_run.proofs.Written.{written}
 use Rattle.session_run.proofs.drive.serve_in_turn.Goals as goal

@@ -1,6 +1,6 @@
 use Rattle.std.proofs.Common.{sym, ◌∙◌}
 use Rattle.session_script.specs.Calls.{is_shared}
-use Rattle.session_run.proofs.Pins.{over_rows}
+use Rattle.session_calls.proofs.Rows.{over_rows}
 use Rattle.session_run.proofs.Playing.{did_by, did_local}
 use Rattle.session_run.proofs.play.reply_to.Goals as goal
 

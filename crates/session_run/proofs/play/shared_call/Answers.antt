@@ -1,8 +1,6 @@
-use Rattle.std.proofs.Common.{◌≡◌, sym, ap, ◌∙◌}
 use Rattle.query_replies.specs.Readings.{Analyses}
 use Rattle.session_calls.specs.States.{IsOver, rows, act_on}
-use Rattle.session_calls.specs.Turns.{IsReady}
-use Rattle.session_run.proofs.Pins.{over_rows}
+use Rattle.session_calls.proofs.Rows.{over_rows}
 use Rattle.session_run.proofs.Playing.{did_shared}
 use Rattle.session_run.proofs.play.shared_call.Goals as goal
 

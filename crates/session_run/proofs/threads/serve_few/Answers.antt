@@ -1,4 +1,4 @@
-use Rattle.std.proofs.Common.{◌≡◌, ℕ, ◌<◌, ◌-◌, List, [], ◌∷◌, ◌++◌, length, get_or, vec_len, sym, ap, ◌∙◌, subst, arith}
+use Rattle.std.proofs.Common.{◌≡◌, ◌-◌, [], ◌∷◌, ◌++◌, get_or, vec_len, sym, ap, ◌∙◌, subst, arith}
 use Rattle.session_run.specs.declared.threads.jobs.Job.{Job}
 use Rattle.session_run.specs.Jobs.{IsReadyJob, IsEnded}
 use Rattle.session_run.proofs.Halves.{one_zip, none_zip}

@@ -1,5 +1,4 @@
-use Rattle.std.proofs.Common.{◌≡◌, ℕ, sym, ap, ◌∙◌}
-use Rattle.turn_book.specs.Seats.{view}
+use Rattle.std.proofs.Common.{sym, ap, ◌∙◌}
 use Rattle.version_store.specs.declared.state.HallState.{HallState}
 use Rattle.version_store.specs.Halls.{origin_of}
 use Rattle.pinned_reader.specs.Rows.{RowState}

@@ -1,11 +1,9 @@
-use Rattle.std.proofs.Common.{◌≡◌, ◌≤◌, ℕ, List, length, map, Option, Some, sym, ap, ◌∙◌, subst, arith}
+use Rattle.std.proofs.Common.{◌≡◌, List, length, sym, ap, ◌∙◌, subst, arith}
 use Rattle.std.proofs.lemmas.List.Elements.{All-from_recursion}
 use Rattle.turn_book.specs.Seats.{view}
-use Rattle.query_replies.specs.Readings.{Analyses}
-use Rattle.session_machine.specs.declared.replies.Reply.{Reply}
 use Rattle.session_run.specs.declared.threads.ran.Ran.{Ran}
-use Rattle.session_run.specs.Seats.{Origin, SeatView, StartsFrom}
-use Rattle.session_run.specs.Jobs.{IsReadyJob, IsDone, IsJoined, Each, IsTop, AreAlong}
+use Rattle.session_run.specs.Seats.{Origin}
+use Rattle.session_run.specs.Jobs.{IsReadyJob, IsTop, AreAlong}
 use Rattle.session_run.specs.Filled.{IsPlaced}
 use Rattle.session_run.proofs.Joins.{all_ready, all_done}
 use Rattle.session_run.proofs.Finals.{IsWhole, whole, ended_all, served_along}

@@ -1,4 +1,4 @@
-use Rattle.std.proofs.Common.{sym, ap}
+use Rattle.std.proofs.Common.{ap}
 use Rattle.session_calls.specs.States.{SessionState}
 use Rattle.session_calls.proofs.Drafts.{ahead_next}
 use Rattle.session_calls.proofs.session.Session.published.Goals as goal

@@ -1,4 +1,4 @@
-use Rattle.std.proofs.Common.{◌≡◌, ℕ, ◌<◌, ◌≤◌, ◌+◌, ◌∷◌, List, length, Option, Some, None, Ok, Err, sym, ap, ◌∙◌, refl, subst, arith, lt_of_not-le}
+use Rattle.std.proofs.Common.{◌≡◌, ℕ, ◌<◌, ◌≤◌, Option, Some, None, sym, ap, ◌∙◌, subst, lt_of_not-le}
 use mathlib.Core.Logic.{dite}
 use native.Mathlib.Decide.{dec_le}
 use Rattle.std.specs.Prelude.{MatchOption, slice_get, option_map, ⊤}
@@ -14,7 +14,7 @@ use Rattle.session_calls.specs.declared.session.Taken.TheVariants as taken
 use Rattle.session_calls.specs.States.{SessionState, rows, act_on}
 use Rattle.session_calls.specs.Turns.{IsReady, Turned, IsNext, noted_act, base_number}
 use Rattle.session_calls.proofs.Rows.{within}
-use Rattle.session_calls.proofs.Acts.{pass_turned, latest_turned, latest_memory, at_turned, at_memory, at_missing, rebase_turned, rebase_memory, published_turned, stale_turned, full_turned, stopped_shared, same_base}
+use Rattle.session_calls.proofs.Acts.{pass_turned, latest_turned, at_turned, at_missing, rebase_turned, published_turned, stale_turned, full_turned, stopped_shared, same_base}
 use Rattle.session_calls.proofs.session.Session.turn.Goals as goal
 
 pub returns-in-Pass-clause-turned : goal.returns-in-Pass-clause-turned

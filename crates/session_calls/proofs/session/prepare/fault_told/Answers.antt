@@ -1,4 +1,3 @@
-use Rattle.std.proofs.Common.{sym, ap}
 use Rattle.session_calls.proofs.Stops.{fault_is_told}
 use Rattle.session_calls.proofs.session.prepare.fault_told.Goals as goal
 

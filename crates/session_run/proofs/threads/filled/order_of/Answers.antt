@@ -1,4 +1,4 @@
-use Rattle.std.proofs.Common.{◌≡◌, ℕ, ◌+◌, length, replicate, refl, sym, ap, ◌∙◌, subst, arith}
+use Rattle.std.proofs.Common.{◌≡◌, ◌+◌, length, replicate, refl, sym, ap, ◌∙◌, arith}
 use Rattle.session_run.specs.Filled.{put_all}
 use Rattle.session_run.proofs.Fills.{marked, marked_first, marked_last, total_is, order_next, fits_within}
 use Rattle.session_run.proofs.threads.filled.order_of.Goals as goal

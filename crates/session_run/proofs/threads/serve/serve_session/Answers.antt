@@ -1,8 +1,7 @@
-use Rattle.std.proofs.Common.{◌≡◌, ℕ, suc, ◌+◌, ◌<◌, ◌≤◌, List, [], ◌∷◌, length, drop, Some, refl, sym, ap, ◌∙◌, subst, arith, drop-cons, add-one}
+use Rattle.std.proofs.Common.{◌≡◌, suc, ◌+◌, ◌∷◌, drop, Some, refl, sym, ap, ◌∙◌, subst, drop-cons, add-one}
 use Rattle.std.proofs.Math.ListN.{drop_of_length-le}
 use Rattle.turn_book.specs.Seats.{view}
 use Rattle.session_script.specs.Calls.{is_shared}
-use Rattle.session_script.specs.declared.calls.Call.{Call}
 use Rattle.query_replies.specs.Readings.{Analyses}
 use Rattle.session_calls.specs.States.{Knows}
 use Rattle.session_run.specs.Going.{rows_at}

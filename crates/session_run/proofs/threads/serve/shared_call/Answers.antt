@@ -1,12 +1,11 @@
-use Rattle.std.proofs.Common.{◌≡◌, ◌+◌, ℕ, List, [], ◌∷◌, ◌++◌, length, Option, Some, sym, ap, ◌∙◌, refl, subst}
+use Rattle.std.proofs.Common.{◌≡◌, List, [], ◌∷◌, ◌++◌, sym, ap, ◌∙◌, refl, subst}
 use Rattle.version_store.specs.declared.state.HallState.{HallState}
-use Rattle.version_store.specs.Halls.{item, rows_of, origin_of, Chain, noted}
-use Rattle.turn_book.specs.Views.{StartsWith, after_turn}
+use Rattle.version_store.specs.Halls.{item, rows_of, Chain}
+use Rattle.turn_book.specs.Views.{after_turn}
 use Rattle.turn_book.specs.Seats.{view, turn_list, turn_value}
 use Rattle.pinned_reader.specs.Rows.{RowState, IsAfter}
-use Rattle.session_calls.specs.States.{SessionState, holding_of, nets, rows, Knows, act_on}
+use Rattle.session_calls.specs.States.{SessionState, rows, Knows, act_on}
 use Rattle.session_calls.specs.Turns.{Finishes, noted_act}
-use Rattle.session_run.specs.Acts.{noted_by}
 use Rattle.session_run.specs.Items.{Item}
 use Rattle.session_run.specs.Going.{rows_at}
 use Rattle.session_run.specs.Seats.{Origin, SeatView}

@@ -1,4 +1,4 @@
-use Rattle.std.proofs.Common.{◌≡◌, ◌+◌, List, [], ◌∷◌, length, Option, sym, ap, ◌∙◌, subst, arith}
+use Rattle.std.proofs.Common.{length, sym, ap, ◌∙◌, subst, arith}
 use Rattle.turn_book.specs.Seats.{view}
 use Rattle.session_run.specs.Seats.{SeatView}
 use Rattle.session_run.specs.Jobs.{Joining}

@@ -1,7 +1,6 @@
-use Rattle.std.proofs.Common.{◌≡◌, ℕ, ◌+◌, ◌-◌, ◌∷◌, ◌++◌, [], List, length, take, drop, get_or, Some, sym, ap, ◌∙◌, subst, refl, arith, vec_len, vec_capacity, length-take}
+use Rattle.std.proofs.Common.{◌≡◌, ◌+◌, ◌∷◌, ◌++◌, [], List, length, take, drop, get_or, sym, ap, ◌∙◌, subst, arith, length-take}
 use Rattle.std.proofs.lemmas.List.{take_more}
 use Rattle.turn_book.specs.Seats.{view}
-use Rattle.turn_book.specs.Views.{handing}
 use Rattle.version_store.specs.Turns.{HasCalls}
 use Rattle.session_script.specs.Calls.{is_shared}
 use Rattle.session_script.specs.declared.calls.Call.{Call}

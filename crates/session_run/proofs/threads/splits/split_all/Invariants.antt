@@ -1,4 +1,4 @@
-use Rattle.std.proofs.Common.{◌≡◌, ◌+◌, [], length, take, drop, vec_len, vec_capacity}
+use Rattle.std.proofs.Common.{◌≡◌, [], length, take, drop, vec_len, vec_capacity}
 use Rattle.turn_book.specs.declared.view.Role.TheVariants.{Opening}
 use Rattle.turn_book.specs.Seats.{view, IsSeatOf}
 use Rattle.session_run.specs.InTurn.{calls_of}
