@@ -10,6 +10,7 @@ ghost use Rattle.rule_system.specs.Weights.{AreArrivals, IsPeriod, is_tight, rul
 use cyc_num::Ratio;
 use first_cycle::first_cycle;
 use rule_system::laws::tight_cycles_have_a_first;
+use rule_system::measures::offered;
 use rule_system::{Cycle, Rule, System};
 use std::alloc::{AllocError, Global};
 
@@ -71,20 +72,5 @@ fn is_tight_rule(rule: Rule, top: u64, bottom: u64, arrivals: &[i64]) -> bool
     requires within { All (LiesWithin 17000000000000000) arrivals.now }
     ensures { result ≡ int_eq (time_of arrivals.now rule.source +ℤ rule_weight top bottom rule) (time_of arrivals.now rule.target) }
 {
-    let offer = arrivals[rule.source as usize] + weight_of(rule, top, bottom);
-    offer == arrivals[rule.target as usize]
-}
-
-/// The weight that a ratio gives a rule.
-fn weight_of(rule: Rule, top: u64, bottom: u64) -> i64
-    requires top { top ≤ 32768000000 }
-    requires bottom { bottom ≤ 491520 }
-    requires delay { rule.delay ≤ 1000000 }
-    requires offset { rule.offset ≤ 15 }
-    ensures weight { result ≡ rule_weight top bottom rule }
-    ensures within { LiesWithin 491520000000 result }
-{
-    let gain = bottom * rule.delay as u64;
-    let cost = top * rule.offset as u64;
-    gain as i64 - cost as i64
+    offered(rule, top, bottom, arrivals) == arrivals[rule.target as usize]
 }

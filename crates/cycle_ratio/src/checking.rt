@@ -1,13 +1,13 @@
-ghost use Rattle.std.specs.Prelude.{◌≡◌, ◌<◌, ◌≤◌, All, IfSome, true, length};
+ghost use Rattle.std.specs.Prelude.{◌≡◌, ◌≤◌, All, true};
 ghost use Rattle.cyc_num.specs.Within.{LiesWithin};
 ghost use Rattle.rule_system.specs.Weights.{HasNoGain};
 ghost use Rattle.cycle_ratio.specs.Cycles.{IsShortCycle};
-ghost use Rattle.rule_system.specs.Walks.{IsCycle, IsWalk};
 
 use cyc_num::Ratio;
 use potentials::feasible;
+use rule_system::System;
 use rule_system::laws::feasible_numbers_bound_cycles;
-use rule_system::{Rule, System};
+use rule_system::measures::is_cycle;
 
 /// The farthest that feasible numbers may lie from 0.
 const WIDEST: i64 = 40_000_000_000_000_000;
@@ -17,33 +17,6 @@ pub fn is_short_cycle(system: &System, walk: &[u32]) -> bool
     ensures { result ≡ true → IsShortCycle system.now.events system.now.rules walk.now }
 {
     walk.len() <= system.events() as usize && is_cycle(system.rules(), walk)
-}
-
-/// Whether rule numbers make a cycle.
-fn is_cycle(rules: &[Rule], walk: &[u32]) -> bool
-    ensures { result ≡ true → IsCycle rules.now walk.now }
-{
-    let Some(first) = walk.first() else {
-        return false;
-    };
-    let Some(rule) = rules.get(*first as usize) else {
-        return false;
-    };
-    end_of(rules, rule.source, walk) == Some(rule.source)
-}
-
-/// Where rule numbers lead to from an event, if they make a walk.
-fn end_of(rules: &[Rule], start: u32, walk: &[u32]) -> Option<u32>
-    ensures { IfSome result (λ end. IsWalk rules.now start walk.now end) }
-{
-    let mut at = start;
-    'steps: for number in walk {
-        match rules.get(*number as usize) {
-            Some(rule) if rule.source == at => at = rule.target,
-            _ => return None,
-        }
-    }
-    Some(at)
 }
 
 /// Whether numbers, one for each event, show that no cycle has a greater ratio than the period.

@@ -1,4 +1,4 @@
-ghost use Rattle.std.specs.Prelude.{◌≡◌, ◌<◌, ◌≤◌, IfOk, All, length};
+ghost use Rattle.std.specs.Prelude.{◌≡◌, ◌<◌, ◌≤◌, IfOk};
 ghost use Rattle.rule_system.specs.Bounds.{IsSystem};
 ghost use Rattle.rule_system.specs.Rules.{delay_sum, offset_sum};
 ghost use Rattle.rule_system.specs.Walks.{IsLive};
@@ -6,7 +6,8 @@ ghost use Rattle.rule_system.specs.Weights.{HasNoGain};
 ghost use Rattle.cycle_ratio.specs.Cycles.{IsShortCycle};
 
 use crate::gains::gain;
-use rule_system::{Cycle, Rule, System};
+use rule_system::measures::{delay_of, offset_of};
+use rule_system::{Cycle, System};
 use std::alloc::{AllocError, Global};
 
 /// Goes from a cycle to cycles of greater and greater ratios, and answers one of the greatest.
@@ -46,30 +47,4 @@ pub fn sums_of(system: &System, cycle: &[u32]) -> Sums
     let delay = delay_of(rules, cycle);
     let offset = offset_of(rules, cycle);
     Sums { delay, offset }
-}
-
-/// The sum of the delays along a list of rule numbers.
-fn delay_of(rules: &[Rule], walk: &[u32]) -> u64
-    requires within { All (λ n. n < length rules.now) walk.now }
-    requires small { delay_sum rules.now walk.now ≤ 32768000000 }
-    ensures { result ≡ delay_sum rules.now walk.now }
-{
-    let mut sum = 0;
-    'numbers: for number in walk {
-        sum += rules[*number as usize].delay as u64;
-    }
-    sum
-}
-
-/// The sum of the offsets along a list of rule numbers.
-fn offset_of(rules: &[Rule], walk: &[u32]) -> u64
-    requires within { All (λ n. n < length rules.now) walk.now }
-    requires small { offset_sum rules.now walk.now ≤ 491520 }
-    ensures { result ≡ offset_sum rules.now walk.now }
-{
-    let mut sum = 0;
-    'numbers: for number in walk {
-        sum += rules[*number as usize].offset as u64;
-    }
-    sum
 }

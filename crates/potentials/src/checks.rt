@@ -3,8 +3,8 @@ ghost use Rattle.rule_system.specs.Weights.{rule_weight, time_of, IsFeasible};
 ghost use Rattle.rule_system.specs.Bounds.{IsRule};
 ghost use Rattle.cyc_num.specs.Within.{LiesWithin};
 
-use crate::weights::offered;
 use cyc_num::Ratio;
+use rule_system::measures::offered;
 use rule_system::{Rule, System};
 
 /// Whether along each rule the numbers rise by at least its weight, `bottom * delay - top * offset`.

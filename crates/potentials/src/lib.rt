@@ -13,7 +13,6 @@ mod starts;
 mod tests;
 mod times;
 mod trees;
-mod weights;
 
 pub use checks::feasible;
 pub use makers::{ArrivalMaker, Plain};

@@ -6,10 +6,10 @@ ghost use Rattle.cyc_num.specs.Within.{LiesWithin};
 ghost use Rattle.potentials.specs.Times.{ArePathWeights};
 
 use crate::checks::are_loose;
-use crate::weights::offered;
 use rule_system::laws::{
     attained_feasible_numbers_are_arrivals, round_covers_one_more, rounds_end,
 };
+use rule_system::measures::offered;
 use rule_system::{Rule, System};
 
 /// Raises the number of the rule's target to what the rule offers.

@@ -5,8 +5,8 @@ ghost use Rattle.cyc_num.specs.Within.{LiesWithin};
 ghost use Rattle.potentials.specs.Times.{AllReachable, ArePathWeights};
 ghost use Rattle.potentials.specs.Trees.{IsTree, IsReached, StaysReached};
 
-use crate::weights::offered;
 use rule_system::System;
+use rule_system::measures::offered;
 
 /// Lets a rule from a reached event reach its target, if that isn't reached yet.
 fn attach(

@@ -3,7 +3,7 @@ ghost use Rattle.std.specs.Prelude.{◌≡◌, ◌*◌, ◌<◌, ◌≤◌, All,
 ghost use Rattle.std.specs.Arc.{arc_value};
 ghost use Rattle.netlist_model.specs.Circuit.{event_of, fork_of};
 ghost use Rattle.rule_system.specs.Bounds.{AreSmallSums};
-ghost use Rattle.rule_system.specs.Rules.{delay_sum, offset_sum, source_of};
+ghost use Rattle.rule_system.specs.Rules.{source_of};
 ghost use Rattle.session_machine.specs.Table.{found};
 ghost use Rattle.session_machine.specs.declared.replies.Reply.TheVariants.{Arrival, Slack};
 ghost use Rattle.session_machine.specs.declared.replies.Refusal.TheVariants.{NoEvent, NoFork};
@@ -17,34 +17,9 @@ use pinned_reader::{Pinned, Row};
 use report_writer::report_text;
 use rule_system::Rule;
 use rule_system::laws::first_cycles_have_small_sums;
+use rule_system::measures::{delay_of, offset_of};
 use session_machine::{Refusal, Reply};
 use std::alloc::{AllocError, Global};
-
-/// The sum of the delays along a list of rule numbers.
-fn delay_of(rules: &[Rule], walk: &[u32]) -> u64
-    requires within { All (λ n. n < length rules.now) walk.now }
-    requires small { delay_sum rules.now walk.now ≤ 32768000000 }
-    ensures { result ≡ delay_sum rules.now walk.now }
-{
-    let mut sum = 0;
-    'numbers: for number in walk {
-        sum += u64::from(rules[*number as usize].delay);
-    }
-    sum
-}
-
-/// The sum of the offsets along a list of rule numbers.
-fn offset_of(rules: &[Rule], walk: &[u32]) -> u64
-    requires within { All (λ n. n < length rules.now) walk.now }
-    requires small { offset_sum rules.now walk.now ≤ 491520 }
-    ensures { result ≡ offset_sum rules.now walk.now }
-{
-    let mut sum = 0;
-    'numbers: for number in walk {
-        sum += u64::from(rules[*number as usize].offset);
-    }
-    sum
-}
 
 /// The name of the first event of a cycle.
 fn first_event(

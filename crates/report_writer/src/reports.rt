@@ -1,7 +1,6 @@
 //! The text of a report.
 ghost use Rattle.std.specs.Prelude.{◌≡◌, ◌*◌, ◌<◌, ◌≤◌, ◌++◌, All, IfOk, OnOk, length};
 ghost use Rattle.rule_system.specs.Bounds.{AreSmallSums, IsRule};
-ghost use Rattle.rule_system.specs.Rules.{delay_sum, offset_sum};
 ghost use Rattle.report_writer.specs.Report as spec;
 ghost use Rattle.report_writer.specs.Rightness.{IsRightFor};
 
@@ -11,6 +10,7 @@ use cyc_num::Ratio;
 use cyc_text::{Text, push_decimal};
 use netlist_model::Netlist;
 use rule_system::laws::first_cycles_have_small_sums;
+use rule_system::measures::{delay_of, offset_of};
 use rule_system::{Rule, System};
 use std::alloc::{AllocError, Global};
 
@@ -23,32 +23,6 @@ pub(crate) fn push_period(text: &mut Vec<u8>, period: Ratio) -> Result<(), Alloc
     text.extend_from_slice(b"/")?;
     push_decimal(text, period.bottom())?;
     text.extend_from_slice(b"\n")
-}
-
-/// The sum of the delays along a list of rule numbers.
-fn delay_of(rules: &[Rule], walk: &[u32]) -> u64
-    requires within { All (λ n. n < length rules.now) walk.now }
-    requires small { delay_sum rules.now walk.now ≤ 32768000000 }
-    ensures { result ≡ delay_sum rules.now walk.now }
-{
-    let mut sum = 0;
-    'numbers: for number in walk {
-        sum += u64::from(rules[*number as usize].delay);
-    }
-    sum
-}
-
-/// The sum of the offsets along a list of rule numbers.
-fn offset_of(rules: &[Rule], walk: &[u32]) -> u64
-    requires within { All (λ n. n < length rules.now) walk.now }
-    requires small { offset_sum rules.now walk.now ≤ 491520 }
-    ensures { result ≡ offset_sum rules.now walk.now }
-{
-    let mut sum = 0;
-    'numbers: for number in walk {
-        sum += u64::from(rules[*number as usize].offset);
-    }
-    sum
 }
 
 /// Adds the line of the cycle's length and sums.

@@ -11,6 +11,7 @@
 mod cycles;
 pub mod inverter_ring;
 pub mod laws;
+pub mod measures;
 pub mod plain;
 mod rows;
 mod rules;

@@ -6,9 +6,10 @@ ghost use Rattle.std.specs.Int.{IsGcd};
 ghost use Rattle.rule_system.specs.FirstCycle.{IsFirstCycle, kept_by};
 ghost use Rattle.rule_system.specs.Plain.{IsFirstFrom, IsFirstWalk, IsKeptWalk, NoneFrom, IsGreatest, IsGreatestClosing, IsWithin, greater_of, after_rule};
 ghost use Rattle.rule_system.specs.Walks.{IsConnected, IsCycle, IsKept, Reaches};
-ghost use Rattle.rule_system.specs.Weights.{AreArrivals, HasNoGain, IsArrival, IsPeriod, rule_weight};
+ghost use Rattle.rule_system.specs.Weights.{AreArrivals, HasNoGain, IsArrival, IsPeriod};
 
 use crate::cycles::Cycle;
+use crate::measures::weight_of;
 use crate::rules::Rule;
 use crate::systems::System;
 use std::alloc::{AllocError, Global};
@@ -159,7 +160,7 @@ fn closing_weight(top: u64, bottom: u64, system: &System, number: usize) -> Opti
     let rule = system.rules()[number];
     let left = system.events();
     let rest = greatest_weight(top, bottom, system, rule.target, rule.source, left);
-    let first = weight_of(top, bottom, rule);
+    let first = weight_of(rule, top, bottom);
     after(first, rest)
 }
 
@@ -185,7 +186,7 @@ fn greatest_weight(
     'heads: for rule in system.rules() {
         if rule.source == from {
             let rest = greatest_weight(top, bottom, system, rule.target, to, left - 1);
-            best = greater(best, after(weight_of(top, bottom, *rule), rest));
+            best = greater(best, after(weight_of(*rule, top, bottom), rest));
         }
     }
     best
@@ -213,19 +214,4 @@ fn after(first: i64, rest: Option<i64>) -> Option<i64>
         Some(weight) => Some(first + weight),
         None => None,
     }
-}
-
-/// What a ratio makes of a rule: bottom times its delay, less top times its offset.
-fn weight_of(top: u64, bottom: u64, rule: Rule) -> i64
-    requires top { top ≤ 32768000000 }
-    requires bottom { bottom ≤ 491520 }
-    requires delay { rule.delay ≤ 1000000 }
-    requires offset { rule.offset ≤ 15 }
-    ensures weight { result ≡ rule_weight top bottom rule }
-    ensures low { pos 0 ≤ℤ (result +ℤ pos 491520000000) }
-    ensures high { result ≤ℤ pos 491520000000 }
-{
-    let gain = bottom * rule.delay as u64;
-    let cost = top * rule.offset as u64;
-    gain as i64 - cost as i64
 }

@@ -26,7 +26,7 @@ heads-preserved t c =
           let best : c.if-rule-from.best ≡ greater_of c.heads.best (after_rule w.weight_of.result w.greatest_weight-rest.result) = w.best-is ∙ w.greater-best.ensures ∙ ap (greater_of c.heads.best) (w.after.ensures ∙ ap (λ (z : ℤ). after_rule z w.greatest_weight-rest.result) passed) in
           record {
             greatest = rw (best, first) (one_more c.args.top c.args.bottom c.args.system.now.rules c.args.left c.args.from c.args.to c.heads.rule-index c.heads.best w.greatest_weight-rest.result (omega arith) inside from c.heads.invariant.greatest rest);
-            within = rw best (within_more c.args.left w.weight_of.result c.heads.best w.greatest_weight-rest.result (omega arith) w.weight_of.ensures.low w.weight_of.ensures.high c.heads.invariant.within w.greatest_weight-rest.ensures.within);
+            within = rw best (within_more c.args.left w.weight_of.result c.heads.best w.greatest_weight-rest.result (omega arith) w.weight_of.ensures.within.0 w.weight_of.ensures.within.1 c.heads.invariant.within w.greatest_weight-rest.ensures.within);
           }
       | else-rule-from w ↦
           let away : source_of c.args.system.now.rules c.heads.rule-index ≡ c.args.from → ⊥ = rw c.rules-rule-items.ensures.rules at w.if-rule-from.false in
