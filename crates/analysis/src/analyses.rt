@@ -9,7 +9,7 @@ use crate::critical::critical_cycle;
 use crate::faults::AnalyseFault;
 use crate::slacks::slacks_of;
 use cyc_num::Ratio;
-use cycle_ratio::greatest;
+use cycle_ratio::greatest_from;
 use fork_slack::ForkOf;
 use liveness_check::check;
 use potentials::{ArrivalMaker, Times};
@@ -33,8 +33,7 @@ pub struct Analysis {
 
 /// The analysis of a system that is connected from the root and live; else the first of the faults V1 to V3 that holds.
 /// The root and the forks' events are events of the system, margins are at most 1,000,000 and offsets at most 15.
-/// Arrivals are made once for each different root among the system's root and the forks' roots; what is done besides,
-/// after the period is found, is linear in events and rules, and for each fork at most two passes over the forks.
+/// It is `analyse_from` with no start.
 pub fn analyse<R: Threads + Sync, M: ArrivalMaker>(
     rt: &R,
     alloc: Global,
@@ -49,8 +48,30 @@ pub fn analyse<R: Threads + Sync, M: ArrivalMaker>(
     ensures right { IfOk result (λ analysis. IsAnalysis system.now root forks.now analysis) }
     ensures fault { IfErr result (λ fault. IsFault system.now.events system.now.rules root (live_fault fault)) }
 {
+    analyse_from(rt, alloc, system, root, forks, maker, &[])
+}
+
+/// The analysis of a system that is connected from the root and live; else the first of the faults V1 to V3 that holds. It
+/// is the same for every start: rule numbers, of which the search for the period makes use where they are a cycle.
+/// Arrivals are made once for each different root among the system's root and the forks' roots; what is done besides,
+/// after the period is found, is linear in events and rules, and for each fork at most two passes over the forks.
+pub fn analyse_from<R: Threads + Sync, M: ArrivalMaker>(
+    rt: &R,
+    alloc: Global,
+    system: &System,
+    root: u32,
+    forks: &[ForkOf],
+    maker: &M,
+    start: &[u32],
+) -> Result<Analysis, AnalyseFault>
+    requires events { 2 ≤ system.now.events }
+    requires root { root < system.now.events }
+    requires forks { All (IsFork system.now.events) forks.now }
+    ensures right { IfOk result (λ analysis. IsAnalysis system.now root forks.now analysis) }
+    ensures fault { IfErr result (λ fault. IsFault system.now.events system.now.rules root (live_fault fault)) }
+{
     check(alloc, system, root)?;
-    let analysis = analysis_of(rt, alloc, system, root, forks, maker)?;
+    let analysis = analysis_of(rt, alloc, system, root, forks, maker, start)?;
     Ok(analysis)
 }
 
@@ -62,6 +83,7 @@ fn analysis_of<R: Threads + Sync, M: ArrivalMaker>(
     root: u32,
     forks: &[ForkOf],
     maker: &M,
+    start: &[u32],
 ) -> Result<Analysis, AllocError>
     requires events { 2 ≤ system.now.events }
     requires root { root < system.now.events }
@@ -71,7 +93,7 @@ fn analysis_of<R: Threads + Sync, M: ArrivalMaker>(
     ensures { IfOk result (λ analysis. IsAnalysis system.now root forks.now analysis) }
 {
     connected_systems_have_a_cycle();
-    let found = greatest(alloc, system)?;
+    let found = greatest_from(alloc, system, start)?;
     let period = found.period;
     let reduced = found.reduced;
     let arrivals = maker.arrivals(rt, alloc, system, root, period, &reduced)?;

@@ -12,5 +12,5 @@ mod slacks;
 #[cfg(test)]
 mod tests;
 
-pub use analyses::{Analysis, analyse};
+pub use analyses::{Analysis, analyse, analyse_from};
 pub use faults::AnalyseFault;

@@ -12,4 +12,4 @@ mod search;
 #[cfg(test)]
 mod tests;
 
-pub use periods::{Found, greatest};
+pub use periods::{Found, greatest, greatest_from};

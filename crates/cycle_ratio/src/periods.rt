@@ -25,11 +25,7 @@ pub struct Found {
     pub reduced: Reduced,
 }
 
-/// The period of a live system that has a cycle, and a cycle that attains it.
-///
-/// A search that is proved to end nowhere wrong but not to end right proposes a cycle, and numbers that bound the ratios of
-/// all cycles; where the two fit, they are the answer. Else cycles of greater and greater ratios are taken, from the
-/// proposed one on.
+/// The period of a live system that has a cycle, and a cycle that attains it: `greatest_from` with no start.
 pub fn greatest(alloc: Global, system: &System) -> Result<Found, AllocError>
     requires live { IsLive system.now.rules }
     requires cycle { HasCycle system.now.rules }
@@ -39,20 +35,41 @@ pub fn greatest(alloc: Global, system: &System) -> Result<Found, AllocError>
     ensures top { IfOk result (λ found. found.period.top ≤ 32768000000) }
     ensures bottom { IfOk result (λ found. found.period.bottom ≤ 491520) }
 {
+    greatest_from(alloc, system, &[])
+}
+
+/// The period of a live system that has a cycle, and a cycle that attains it, whatever the start.
+///
+/// Where the start is the rule numbers of a cycle, at most as many as there are events, the search begins at its ratio: a
+/// start that has the period, or nearly so, may save rounds. Any other start is passed over.
+///
+/// A search that is proved to end nowhere wrong but not to end right proposes a cycle, and numbers that bound the ratios of
+/// all cycles; where the two fit, they are the answer. Else cycles of greater and greater ratios are taken, from the
+/// proposed one on.
+pub fn greatest_from(alloc: Global, system: &System, start: &[u32]) -> Result<Found, AllocError>
+    requires live { IsLive system.now.rules }
+    requires cycle { HasCycle system.now.rules }
+    ensures period { IfOk result (λ found. IsPeriod system.now.rules found.period.top found.period.bottom) }
+    ensures cycle { IfOk result (λ found. IsCycle system.now.rules found.cycle) }
+    ensures attains { IfOk result (λ found. Attains found.period.top found.period.bottom system.now.rules found.cycle) }
+    ensures top { IfOk result (λ found. found.period.top ≤ 32768000000) }
+    ensures bottom { IfOk result (λ found. found.period.bottom ≤ 491520) }
+{
+    let ratio = ratio_of(system, start);
     let Proposal {
         cycle,
         places,
         heights,
-    } = propose(alloc, system)?;
+    } = propose(alloc, system, start, ratio)?;
     if !is_short_cycle(system, &cycle) {
         let first = any_cycle(alloc, system)?;
-        return greatest_from(alloc, system, first);
+        return raised_from(alloc, system, first);
     }
     let cycle = Cycle::of(cycle);
     let period = period_of(system, cycle.list());
     let numbers = numbers_of(alloc, &places, &heights)?;
     if !shows_no_gain(system, period, &numbers) {
-        return greatest_from(alloc, system, cycle);
+        return raised_from(alloc, system, cycle);
     }
     let reduced = Reduced::of(alloc, &places, Scale::of(period), heights.values())?;
     Ok(Found {
@@ -62,8 +79,18 @@ pub fn greatest(alloc: Global, system: &System) -> Result<Found, AllocError>
     })
 }
 
+/// The ratio of a start, if it is a cycle of at most as many rules as there are events.
+fn ratio_of(system: &System, start: &[u32]) -> Option<Ratio>
+    requires { IsLive system.now.rules }
+{
+    if !is_short_cycle(system, start) {
+        return None;
+    }
+    Some(period_of(system, start))
+}
+
 /// The period and a cycle that attains it, by cycles of greater and greater ratios from one on.
-fn greatest_from(alloc: Global, system: &System, first: Cycle) -> Result<Found, AllocError>
+fn raised_from(alloc: Global, system: &System, first: Cycle) -> Result<Found, AllocError>
     requires live { IsLive system.now.rules }
     requires cycle { IsShortCycle system.now.events system.now.rules first }
     ensures period { IfOk result (λ found. IsPeriod system.now.rules found.period.top found.period.bottom) }

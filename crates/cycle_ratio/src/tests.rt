@@ -5,7 +5,8 @@ ghost use Rattle.rule_system.specs.Walks.{IsLive};
 ghost use Rattle.rule_system.specs.FirstCycle.{kept_by};
 ghost use Rattle.cycle_ratio.specs.Cycles.{HasCycle};
 
-use crate::greatest;
+use crate::checking::is_short_cycle;
+use crate::{greatest, greatest_from};
 use first_cycle::first_cycle;
 use rule_system::{Rule, System, plain};
 use std::alloc::{AllocError, Global};
@@ -88,12 +89,24 @@ fn period_of(alloc: Global, events: u32, rows: &[Row]) -> Result<(u64, u64), Fai
     Ok((found.period.top(), found.period.bottom()))
 }
 
-/// Whether the period is the one of the plain test.
-fn is_right(alloc: Global, system: &System) -> Result<bool, AllocError>
+/// The top and the bottom of the period of a live system with a cycle, from a start.
+fn period_from(
+    alloc: Global,
+    events: u32,
+    rows: &[Row],
+    start: &[u32],
+) -> Result<(u64, u64), Fail> {
+    let system = system_if_any(alloc, events, rows)?.ok_or("no period")?;
+    let found = greatest_from(alloc, &system, start)?;
+    Ok((found.period.top(), found.period.bottom()))
+}
+
+/// Whether the period from a start is the one of the plain test.
+fn is_right(alloc: Global, system: &System, start: &[u32]) -> Result<bool, AllocError>
     requires live { IsLive system.now.rules }
     requires cycle { HasCycle system.now.rules }
 {
-    let found = greatest(alloc, system)?;
+    let found = greatest_from(alloc, system, start)?;
     let top = found.period.top();
     let bottom = found.period.bottom();
     Ok(plain::is_period(top, bottom, system))
@@ -137,9 +150,9 @@ fn ring_without_delays(rt: HostRuntime) -> Result<(), Fail> {
     Ok(())
 }
 
-#[test]
-fn muller_ring(rt: HostRuntime) -> Result<(), Fail> {
-    let rows = [
+/// A Muller ring of three stages.
+fn muller_ring() -> [Row; 18] {
+    [
         (8, 0, 20, 0),
         (9, 1, 18, 1),
         (6, 0, 20, 0),
@@ -158,8 +171,35 @@ fn muller_ring(rt: HostRuntime) -> Result<(), Fail> {
         (3, 9, 18, 0),
         (9, 10, 12, 0),
         (8, 11, 10, 0),
+    ]
+}
+
+#[test]
+fn muller_ring_of_three_stages(rt: HostRuntime) -> Result<(), Fail> {
+    assert_eq!(rt; period_of(rt.alloc(), 12, &muller_ring())?, (180, 1));
+    Ok(())
+}
+
+/// The start: none; the cycle of the period; a lesser cycle, once and three times round; no walk; a rule past the end; a walk
+/// of offset 0, which is not closed; a closed walk that is too long.
+#[test]
+fn muller_ring_from_starts(rt: HostRuntime) -> Result<(), Fail> {
+    let starts: [&[u32]; 8] = [
+        &[],
+        &[5, 15, 16, 8, 11, 3, 4, 14, 17, 9, 10, 2],
+        &[6, 12, 0],
+        &[6, 12, 0, 6, 12, 0, 6, 12, 0],
+        &[0, 0],
+        &[18],
+        &[5, 15, 16],
+        &[6, 12, 0, 5, 15, 16, 8, 11, 3, 4, 14, 17, 9, 10, 2],
     ];
-    assert_eq!(rt; period_of(rt.alloc(), 12, &rows)?, (180, 1));
+    for start in starts {
+        assert_eq!(rt;
+            period_from(rt.alloc(), 12, &muller_ring(), start)?,
+            (180, 1)
+        );
+    }
     Ok(())
 }
 
@@ -220,18 +260,52 @@ fn drawn_rows(alloc: Global, draw: &mut Draw, events: u32) -> Result<Vec<Row>, A
     Ok(rows)
 }
 
+/// A few numbers of the rules, and of one that there is not.
+fn drawn_start(alloc: Global, draw: &mut Draw) -> Result<Vec<u32>, AllocError> {
+    let mut start = Vec::new(alloc);
+    for _ in 0..draw.below(4) {
+        start.push(draw.below(6))?;
+    }
+    Ok(start)
+}
+
+/// How many of eight drawn starts are cycles, or none where the period from one of them is wrong.
+fn cycles_of_starts(
+    alloc: Global,
+    system: &System,
+    draw: &mut Draw,
+) -> Result<Option<u32>, AllocError>
+    requires live { IsLive system.now.rules }
+    requires cycle { HasCycle system.now.rules }
+{
+    let mut cycles = 0u32;
+    for _ in 0..8u32 {
+        let start = drawn_start(alloc, draw)?;
+        if !is_right(alloc, system, &start)? {
+            return Ok(None);
+        }
+        if is_short_cycle(system, &start) {
+            cycles = cycles.saturating_add(1);
+        }
+    }
+    Ok(Some(cycles))
+}
+
 #[test]
-fn drawn_systems(rt: HostRuntime) -> Result<(), Fail> {
+fn drawn_systems_from_drawn_starts(rt: HostRuntime) -> Result<(), Fail> {
     let mut draw = Draw { state: 7 };
     let mut judged = 0u32;
+    let mut cycles = 0u32;
     for _ in 0..120u32 {
         let events = draw.below(4).saturating_add(1);
         let rows = drawn_rows(rt.alloc(), &mut draw, events)?;
         if let Some(system) = system_if_any(rt.alloc(), events, &rows)? {
-            assert!(rt; is_right(rt.alloc(), &system)?);
+            let more = cycles_of_starts(rt.alloc(), &system, &mut draw)?;
+            cycles = cycles.saturating_add(more.ok_or("a wrong period")?);
             judged = judged.saturating_add(1);
         }
     }
     assert!(rt; judged > 20, "{judged} of 120 systems have a period");
+    assert!(rt; cycles > 20, "{cycles} starts are cycles");
     Ok(())
 }

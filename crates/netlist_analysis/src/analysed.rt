@@ -9,7 +9,7 @@ ghost use Rattle.event_expand.specs.Systems.{system_of};
 ghost use Rattle.netlist_analysis.specs.Findings.{IsFinding, IsRooted, NamesBelow};
 
 use crate::faults::{EventList, NetlistFault};
-use analysis::{AnalyseFault, Analysis, analyse};
+use analysis::{AnalyseFault, Analysis, analyse_from};
 use cell_arcs::Library;
 use event_expand::{expand, forks_of};
 use netlist_model::{Netlist, WholeFault};
@@ -76,6 +76,7 @@ fn analyse_whole<R: Threads + Sync, M: ArrivalMaker>(
     netlist: &Netlist,
     root: u32,
     maker: &M,
+    start: &[u32],
 ) -> Result<Analysed, NetlistFault>
     requires fits { Fits library.now netlist.now.insts }
     requires few { length (rules_of library.now netlist.now) ≤ 131072 }
@@ -88,7 +89,7 @@ fn analyse_whole<R: Threads + Sync, M: ArrivalMaker>(
     netlist.sound();
     let system = expand(rt, alloc, library, netlist)?;
     let forks = forks_of(alloc, netlist)?;
-    match analyse(rt, alloc, &system, root, &forks, maker) {
+    match analyse_from(rt, alloc, &system, root, &forks, maker, start) {
         Ok(analysis) => Ok(Analysed { system, analysis }),
         Err(fault) => Err(system_fault(alloc, library, netlist, root, &system, fault)),
     }
@@ -115,10 +116,33 @@ pub fn analyse_netlist<R: Threads + Sync, M: ArrivalMaker>(
     ensures refused { IfErr result (λ e. e ≢ NetlistFault.Memory → IsFinding library.now netlist.now (Err e)) }
     ensures events { IfErr result (NamesBelow (2 * length netlist.now.nets)) }
 {
+    analyse_netlist_from(rt, alloc, library, netlist, maker, &[])
+}
+
+/// What `analyse_netlist` answers, whatever the start: rule numbers of the netlist's system, of which the search for the
+/// period makes use where they are a cycle.
+///
+/// # Errors
+///
+/// Those of `analyse_netlist`.
+pub fn analyse_netlist_from<R: Threads + Sync, M: ArrivalMaker>(
+    rt: &R,
+    alloc: Global,
+    library: &Library,
+    netlist: &Netlist,
+    maker: &M,
+    start: &[u32],
+) -> Result<Analysed, NetlistFault>
+    requires { Fits library.now netlist.now.insts }
+    ensures system { IfOk result (λ a. a.system ≡ system_of library.now netlist.now) }
+    ensures found { IfOk result (λ a. IsFinding library.now netlist.now (Ok a.analysis)) }
+    ensures refused { IfErr result (λ e. e ≢ NetlistFault.Memory → IsFinding library.now netlist.now (Err e)) }
+    ensures events { IfErr result (NamesBelow (2 * length netlist.now.nets)) }
+{
     match netlist.check_whole(library) {
         Err(fault) => Err(NetlistFault::Whole(fault)),
         Ok(()) => match netlist.root() {
-            Some(root) => analyse_whole(rt, alloc, library, netlist, root, maker),
+            Some(root) => analyse_whole(rt, alloc, library, netlist, root, maker, start),
             None => Err(NetlistFault::Whole(WholeFault::NoRoot)),
         },
     }

@@ -9,5 +9,5 @@ mod analysed;
 mod faults;
 pub mod laws;
 
-pub use analysed::{Analysed, analyse_netlist};
+pub use analysed::{Analysed, analyse_netlist, analyse_netlist_from};
 pub use faults::{EventList, NetlistFault};

@@ -9,7 +9,7 @@ ghost use Rattle.pinned_reader.specs.Rows.{RowState, state_of, IsRow, IsAfter, A
 use analysis::Analysis;
 use cell_arcs::Library;
 use edit_log::{apply, copy_edits};
-use netlist_analysis::{Analysed, NetlistFault as RowFault, analyse_netlist};
+use netlist_analysis::{Analysed, NetlistFault as RowFault, analyse_netlist, analyse_netlist_from};
 use netlist_model::{Edit, Edits, Netlist};
 use potentials::ArrivalMaker;
 use rule_system::System;
@@ -76,7 +76,8 @@ impl Row {
     }
 
     /// The row that follows a parent by these edits, which apply to the parent's netlist. The library is shared; the cost is that of
-    /// the edits on a copy of the parent's netlist, of a copy of the edits, and of one analysis.
+    /// the edits on a copy of the parent's netlist, of a copy of the edits, and of one analysis, whose search for the period begins at
+    /// the parent's critical cycle where its rule numbers are still a cycle.
     ///
     /// # Errors
     ///
@@ -98,7 +99,8 @@ impl Row {
         let Ok(netlist) = apply(&parent.library, &parent.netlist, edits) else {
             return Err(RowFault::Memory);
         };
-        let analysed = analyse_netlist(rt, alloc, &parent.library, &netlist, maker)?;
+        let start = parent.analysis.cycle.list();
+        let analysed = analyse_netlist_from(rt, alloc, &parent.library, &netlist, maker, start)?;
         let edits = copy_edits(alloc, edits)?;
         Ok(row_of(&parent.library, edits, netlist, analysed)?)
     }

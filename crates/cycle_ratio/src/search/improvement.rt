@@ -5,7 +5,8 @@ ghost use Rattle.std.specs.Prelude.{◌≤◌};
 use crate::search::cycles::cycle_through;
 use crate::search::evaluation::evaluate;
 use crate::search::goals::Goals;
-use crate::search::policy::{best_closing, choose_longest};
+use crate::search::policy::{best_closing, choose_along, choose_longest};
+use cyc_num::Ratio;
 use potentials::search::{Heights, Pending, Places, Scale};
 use rule_system::System;
 use std::alloc::{AllocError, Global};
@@ -39,12 +40,26 @@ pub struct Proposal {
 /// Where the best ratio rises again and again by little, each round goes on from the events that rose most; where it still
 /// does, ratios above it are tested, and the span between the best one and one that no cycle exceeds is halved (Lawler 1976).
 /// The search ends when about a fixed number of rules were tried.
-pub fn propose(alloc: Global, system: &System) -> Result<Proposal, AllocError> {
+///
+/// With a ratio the start is a cycle of it: its rules are chosen from the beginning, and better cycles are looked for.
+pub fn propose(
+    alloc: Global,
+    system: &System,
+    start: &[u32],
+    ratio: Option<Ratio>,
+) -> Result<Proposal, AllocError> {
     let places = Places::of(alloc, system)?;
     let mut heights = Heights::zeros(alloc, places.count() as usize)?;
     let mut cycle = Vec::new(alloc);
-    if choose_longest(&places, &mut heights) {
-        improve(alloc, &places, &mut heights, &mut cycle)?;
+    let mut goals = Goals::none();
+    let each = choose_longest(&places, &mut heights);
+    if let Some(ratio) = ratio {
+        choose_along(system, &places, start, &mut heights);
+        cycle.extend_from_slice(start)?;
+        goals.rise(ratio);
+    }
+    if each {
+        improve(alloc, &places, &mut heights, goals, &mut cycle)?;
     }
     Ok(Proposal {
         cycle,
@@ -58,10 +73,10 @@ fn improve(
     alloc: Global,
     places: &Places,
     heights: &mut Heights,
+    mut goals: Goals,
     cycle: &mut Vec<u32>,
 ) -> Result<(), AllocError> {
     let mut pending = Pending::none_of(alloc, places.count() as usize)?;
-    let mut goals = Goals::none();
     let mut stood: u32 = 0;
     'rounds: for _ in 0..MOST_TRIED / cost_of_round(places) {
         let Some(closing) = best_closing(alloc, places, heights)? else {

@@ -2,6 +2,7 @@
 
 use cyc_num::Ratio;
 use potentials::search::{Heights, Link, Places};
+use rule_system::System;
 use std::alloc::{AllocError, Global};
 use std::cmp::Ordering;
 
@@ -22,6 +23,24 @@ pub fn choose_longest(places: &Places, heights: &mut Heights) -> bool {
         }
     }
     each
+}
+
+/// Chooses the rules of a cycle, each into the place of its target.
+pub fn choose_along(system: &System, places: &Places, cycle: &[u32], heights: &mut Heights) {
+    'numbers: for number in cycle {
+        if let Some(rule) = system.rules().get(*number as usize)
+            && let Some(target) = places.places().get(rule.target as usize)
+            && let Some(source) = places.places().get(rule.source as usize)
+        {
+            let link = Link {
+                place: *source,
+                rule: *number,
+                delay: rule.delay,
+                offset: rule.offset,
+            };
+            heights.choose(*target, link);
+        }
+    }
 }
 
 /// The first of the rules of the greatest delay.

@@ -13,8 +13,8 @@ carried (Err x) e P is h = rw is h
 pub apply-requires : goal.apply-requires
 apply-requires g c = rw c.deref.ensures c.parent.invariant.fits
 
-pub analyse_netlist-requires-after_bounds : goal.analyse_netlist-requires-after_bounds
-analyse_netlist-requires-after_bounds g c κs within = rw (c.deref-2.ensures, ← c.deref.ensures) c.in-Ok.ensures.fits
+pub analyse_netlist_from-requires-after_bounds : goal.analyse_netlist_from-requires-after_bounds
+analyse_netlist_from-requires-after_bounds g c κs within = rw (c.deref-2.ensures, ← c.deref.ensures) c.in-Ok.ensures.fits
 
 pub returns-in_err-analysed-clause-refused : goal.returns-in_err-analysed-clause-refused
 returns-in_err-analysed-clause-refused g c =
