@@ -23,6 +23,9 @@ net A|net B|net C|net D|inst i1 INV A=A Z=B|inst i2 INV A=B Z=C|inst i4 INV A=B 
 % => pin|report|period| => order 1|session 1|1 pinned 0|2 report|period 66/1|cycle 6 66 1|step 1 A+ B- 10 0|step 2 B- C+ 12 0|step 5 C+ A- 10 0|step 0 A- B+ 12 0|step 3 B+ C- 10 0|step 4 C- A+ 12 1|arrival A+ 0/1|arrival A- 32/1|arrival B+ 44/1|arrival B- 10/1|arrival C+ 22/1|arrival C- 54/1|end|3 period 66/1|
 % => pin|tick C- A+ 0|publish| => order 1 1|session 1|1 pinned 0|2 edited 1|3 refused V3 6 A+|
 % => pin|delinst i1|publish| => order 1 1|session 1|1 pinned 0|2 edited 1|3 refused H1 B|
+% => pin|net D|pin 7|pin|rebase|publish|drop|publish|drop| => order 1 1 1 1 1 1|session 1|1 pinned 0|2 edited 1|3 refused draft open|4 refused draft open|5 rebased 0|6 refused H1 D|7 dropped 1|8 refused empty draft|9 dropped 0|
+% => pin|tick A+ A+ 1|publish|net D|publish|inst i4 INV A=A Z=D|publish|tick A+ A+ 0|publish| => order 1 1 1 1 1|session 1|1 pinned 0|2 edited 1|3 refused H3 2|4 edited 2|5 refused H1 D|6 edited 3|7 refused H3 2|8 edited 4|9 refused V2 D+|
+% => pin|delay i1 A 15 10|publish|pin 9| => pin|publish|delinst i1|publish|drop|tick C- A+ 0|publish|drop|delay i2 A 12 14|publish| => order 1 2 1 2 2 2 2 1|session 1|1 pinned 0|2 edited 1|3 published 1|4 refused no version 1|session 2|1 pinned 0|2 refused empty draft|3 edited 1|4 refused H1 B|5 dropped 1|6 edited 1|7 refused V3 6 A+|8 dropped 1|9 edited 1|10 refused stale 1|
 % => pin|pin x| => fault: script 1 line 2 syntax|
 % => # one| => |pin|foo| => fault: script 2 line 3 syntax|
 % => pin|period|delay i1 A 15 => fault: script 1 line 3 syntax|

@@ -12,7 +12,7 @@ use Rattle.std.proofs.lemmas.List.{map-append}
 use Rattle.indexmap.specs.IndexMap.{insert_entry}
 use Rattle.std.proofs.lemmas.Cmp.{nat_list_eq_equiv}
 use Rattle.std.proofs.lemmas.List.Elements.{All-push, All-weaker}
-use Rattle.std.proofs.lemmas.Map.Keys.{apart_from_distinct, any_passes_from_place}
+use Rattle.std.proofs.lemmas.Map.Keys.{apart_from_distinct, any_passes_from_place, IsDistinct-push}
 use Rattle.std.proofs.lemmas.Map.Text.{is_eq-slice_cmp}
 use Rattle.std.proofs.lemmas.Option.{get_or_from_slice_get, slice_get_within, slice_get-get_or}
 use Rattle.std.proofs.lemmas.List.Quantifiers.{position-Some}
@@ -20,6 +20,7 @@ use Rattle.cell_arcs.specs.Steps.{or_else}
 use Rattle.netlist_model.specs.Circuit.{place_of}
 use Rattle.netlist_model.specs.Deletions.{moved_up}
 use Rattle.netlist_model.specs.Keyed.{IsKeyed}
+use Rattle.netlist_model.proofs.Entries.{IsDistinct-remove}
 use Rattle.netlist_model.proofs.Places.{none_passes, position_push, position_within, stands}
 use Rattle.netlist_model.proofs.Taken.{position_without, position_alone, slice_get_without, All-remove, map-remove, none_at, not_true, one_place}
 
@@ -102,6 +103,20 @@ keyed_place names numbers number next name n keyed differ is = by (place_of name
         let g : slice_get numbers k ≡ Some n = sym (keyed.found name ∙ ap (option_and_then (slice_get numbers)) e) ∙ is in
         first_at numbers k n differ g ∙ sym e
 
+-- a name that stands at a place is found there
+pub keyed_here : (names : List (List ℕ)) (numbers : List ℕ) (number : List ℕ → Option ℕ) (next at : ℕ) (name : List ℕ) → IsKeyed names numbers number next
+    → slice_get names at ≡ Some name → place_of name names ≡ Some at
+keyed_here names numbers number next at name keyed here = by (place_of name names) refl
+  where
+    by : (o : Option ℕ) → place_of name names ≡ o → place_of name names ≡ Some at
+    by None e =
+        let none = none_passes (bytes_eq name) names e in
+        let some = any_passes_from_place (bytes_eq name) names at name here ((bytes_decides name name).1 refl) in
+        let f : true ≡ false = sym some ∙ none in cc
+    by (Some k) e =
+        let (low, is, first) = position-Some (bytes_eq name) names k [] e in
+        e ∙ ap Some (one_place names k at (get_or names k []) name keyed.differ (slice_get-get_or names k [] low) here (sym (bytes_same name (get_or names k []) is)))
+
 -- a name without number is none of the names
 pub keyed_none : (names : List (List ℕ)) (numbers : List ℕ) (number : List ℕ → Option ℕ) (next : ℕ) (name : List ℕ) → IsKeyed names numbers number next → length names ≡ length numbers
     → number name ≡ None → place_of name names ≡ None
@@ -131,6 +146,7 @@ pub keyed_push : (names : List (List ℕ)) (numbers : List ℕ) (number number' 
 keyed_push names numbers number number' next name keyed as_many fresh after = record {
   found = λ q. after q ∙ by q (bytes_eq name q) refl;
   below = All-push (λ n. n < next + 1) numbers next (All-weaker (λ n. n < next) (λ n. n < next + 1) (λ n low. omega arith) numbers keyed.below) (omega arith);
+  differ = IsDistinct-push nat_list_eq_equiv names name keyed.differ (none_passes (bytes_eq name) names fresh);
 }
   where
     kept : (q : List ℕ) (o : Option ℕ) → place_of q names ≡ o → option_and_then (slice_get numbers) o ≡ option_and_then (slice_get (numbers ++ next ∷ [])) (or_else o None)
@@ -157,6 +173,7 @@ pub keyed_remove : (names : List (List ℕ)) (numbers : List ℕ) (number number
 keyed_remove names numbers number number' next gone name keyed at differ after = record {
   found = λ q. after q ∙ by q (bytes_eq name q) refl;
   below = All-remove (λ n. n < next) numbers gone keyed.below;
+  differ = IsDistinct-remove bytes_eq names gone keyed.differ;
 }
   where
     passes : (q : List ℕ) (k : ℕ) → place_of q names ≡ Some k → (x : List ℕ) × (slice_get names k ≡ Some x) × (bytes_eq q x ≡ true)
@@ -180,6 +197,10 @@ keyed_remove names numbers number number' next gone name keyed at differ after =
         keyed.found q ∙ stays q (place_of q names) apart refl ∙ ap (option_and_then (slice_get (remove numbers gone))) (sym (position_without (bytes_eq q) names gone name at apart))
 
 -- ---- the table
+
+pub no_names_differ : IsDistinct bytes_eq []
+unfolding IsDistinct
+no_names_differ = tt
 
 -- the names of the entries, in order
 abbrev pub names_in : List (ℕ × Vec ℕ Global) → List (List ℕ)

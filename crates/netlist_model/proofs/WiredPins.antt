@@ -1,10 +1,9 @@
 -- What pins are on, found with one look-up for each word.
-use Rattle.std.proofs.Common.{◌≡◌, ℕ, ◌+◌, ◌<◌, List, [], ◌∷◌, ◌++◌, All, length, map, suc, slice_get, find, Bool, true, false, Option, Some, None, option_map, option_and_then, position, Result, Ok, Err, refl, sym, ap, subst, ◌∙◌, arith, if◌then◌else◌}
+use Rattle.std.proofs.Common.{◌≡◌, ℕ, ◌+◌, List, [], ◌∷◌, ◌++◌, All, length, map, suc, slice_get, find, Bool, true, false, Option, Some, None, option_map, option_and_then, position, Result, Ok, Err, refl, sym, ap, subst, ◌∙◌, arith, if◌then◌else◌}
 use Rattle.std.proofs.lemmas.List.{length-append}
 use Rattle.std.proofs.lemmas.List.Elements.{All-push}
 use Rattle.std.proofs.lemmas.Option.{slice_get_within, get_or_from_slice_get}
 use Rattle.std.specs.Str.{bytes_eq}
-use Rattle.std.proofs.lemmas.Grind.{common_steps}
 use Rattle.cell_arcs.specs.Steps.{◌>>=◌, or_fault, unless_fault}
 use Rattle.cell_arcs.specs.declared.cells.Cell.{Cell}
 use Rattle.netlist_model.specs.Circuit.{Circuit, ref_of}

@@ -1,5 +1,5 @@
 -- The statements that take something away: the first refusal that holds, or the netlist after it.
-use Rattle.std.specs.Prelude.{ℕ, ◌+◌, ◌-◌, ◌*◌, ◌/◌, ◌%◌, ◌==◌, ◌||◌, Bool, false, nat_lt, if◌then◌else◌, List, map, Option, Some, None, option_map, Result, Ok, Err}
+use Rattle.std.specs.Prelude.{ℕ, ◌+◌, ◌-◌, ◌*◌, ◌/◌, ◌%◌, ◌==◌, ◌||◌, Bool, false, nat_lt, if◌then◌else◌, List, map, option_map, Result, Ok}
 use Rattle.std.specs.List.{list_any, remove}
 use Rattle.std.specs.Option.{option_map_or}
 use Rattle.cell_arcs.specs.Steps.{◌>>=◌, or_fault}

@@ -1,15 +1,18 @@
 -- How names, drivers and ticks are found; no contract of the crate's public calls speaks of it.
 use Rattle.std.specs.Prelude.{◌≡◌, ℕ, ◌+◌, ◌*◌, ◌<◌, ◌==◌, nat_lt, true, if◌then◌else◌, List, All, Option, Some, None, is_some, option_and_then, option_map, slice_get, unwrap_or}
+use Rattle.std.specs.List.{IsDistinct}
+use Rattle.std.specs.Str.{bytes_eq}
 use Rattle.std.specs.declared.cmp.Ordering.{Ordering}
 use Rattle.std.specs.Map.{lookup}
 use Rattle.std.specs.Ordering.{is_eq, nat_cmp, ordering_then}
 use Rattle.netlist_model.specs.Circuit.{place_of}
 use Rattle.netlist_model.specs.Deletions.{moved_up}
 
--- names in order, each with a number of its own: a name is found at its number, and all numbers are below the next
+-- names in order that differ, each with a number of its own: a name is found at its number, and all numbers are below the next
 pub record IsKeyed (names : List (List ℕ)) (numbers : List ℕ) (number : List ℕ → Option ℕ) (next : ℕ) : Type 0 where
   pub found : (name : List ℕ) → number name ≡ option_and_then (slice_get numbers) (place_of name names)
   pub below : All (λ n. n < next) numbers
+  pub differ : IsDistinct bytes_eq names
 
 -- the place that is told at a place, if one is
 abbrev pub told_at : List (Option ℕ) → ℕ → Option ℕ

@@ -4,6 +4,7 @@ ghost use Rattle.std.specs.List.{IsDistinct};
 ghost use Rattle.std.specs.Str.{bytes_eq};
 ghost use Rattle.netlist_model.specs.Circuit.{place_of};
 
+use crate::hints::Hints;
 use indexmap::IndexMap;
 use std::alloc::{AllocError, Global};
 use std::collections::BTreeMap;
@@ -11,12 +12,14 @@ use std::marker::Model;
 
 /// Names in order. Each keeps a number of its own while others come and go: an index map holds the names in
 /// order by their numbers, and an ordered map finds the number of a name. So no choice of names makes a look-up
-/// slow, and no key changes where a name is taken away.
+/// slow, and no key changes where a name is taken away. Before that a look-up tries the one place that a hash leads
+/// to, where most names are.
 #[derive(Drop)]
 pub(crate) struct Keys {
     names: IndexMap<u64, Vec<u8>>,
     numbers: BTreeMap<Vec<u8>, u64>,
     next: u64,
+    hints: Hints,
 }
 
 impl Model for Keys {
@@ -36,6 +39,7 @@ impl Model for Keys {
 }
 
 impl Keys {
+    #[tactic(auto, using(crate::proofs::KeyedLemmas::no_names_differ))]
     pub(crate) fn empty(alloc: Global) -> Keys
         ensures { result ≡ [] }
     {
@@ -43,6 +47,7 @@ impl Keys {
             names: IndexMap::new(alloc),
             numbers: BTreeMap::new(alloc),
             next: 0,
+            hints: Hints::empty(alloc),
         }
     }
 
@@ -57,6 +62,10 @@ impl Keys {
         ensures place { result ≡ place_of name.now self.now }
         ensures within { IfSome result (λ at. at < length self.now) }
     {
+        let hint = self.hints.place(name);
+        if hint < self.names.len() && self.names[hint].as_slice() == name {
+            return Some(hint);
+        }
         match self.numbers.get(name) {
             Some(number) => self.names.get_index_of(number),
             None => None,
@@ -77,6 +86,7 @@ impl Keys {
         ensures ok { OnOk result (self.new ≡ self.old ++ name.now ∷ []) }
         ensures err { OnErr result (self.new ≡ self.old) }
     {
+        self.make_room()?;
         let number = self.next;
         let Some(next) = number.checked_add(1) else {
             return Err(AllocError);
@@ -84,11 +94,32 @@ impl Keys {
         let alloc = *self.names.allocator();
         let key = Vec::from_slice(alloc, name)?;
         let kept = Vec::from_slice(alloc, name)?;
+        let at = self.names.len();
         self.names.reserve(1)?;
         self.numbers.insert(key, number)?;
         let _ = self.names.insert(number, kept);
         self.next = next;
+        self.hints.note(name, at);
         Ok(())
+    }
+
+    /// Makes a larger table of hints, where one more name wants it.
+    fn make_room(&mut self) -> Result<(), AllocError>
+        ensures { self.new ≡ self.old }
+    {
+        if self.hints.is_small(self.count()) {
+            self.hints = self.noted()?;
+        }
+        Ok(())
+    }
+
+    /// A larger table of hints, with the places of all names.
+    fn noted(&self) -> Result<Hints, AllocError> {
+        let mut hints = Hints::for_names(*self.names.allocator(), self.count())?;
+        for at in 0..self.count() {
+            hints.note(self.name(at), at);
+        }
+        Ok(hints)
     }
 
     /// Takes the name at a place away. The others keep their order.

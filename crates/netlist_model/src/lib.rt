@@ -6,6 +6,7 @@ mod drivers;
 mod edits;
 mod faults;
 mod forks;
+mod hints;
 mod instances;
 mod keys;
 pub mod laws;

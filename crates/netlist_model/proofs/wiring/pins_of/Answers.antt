@@ -1,5 +1,4 @@
-use Rattle.std.proofs.Common.{◌≡◌, ◌∙◌, [], Some, None, All, length, map, ap, sym, arith, rules}
-use Rattle.netlist_model.specs.Circuit.{ref_of}
+use Rattle.std.proofs.Common.{◌≡◌, [], Some, None, length, arith, rules}
 use Rattle.netlist_model.specs.Sound.{IsPin}
 use Rattle.netlist_model.specs.Wired.{all_wired, wired}
 use Rattle.netlist_model.proofs.WiredPins.{all_wired_each, all_wired_within, output_missing, pins_found, pins_missing, wired_within}

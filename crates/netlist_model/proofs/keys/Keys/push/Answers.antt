@@ -11,7 +11,7 @@ invariant_of-self-2 c =
     let name = c.args.name.now in
     let inserted : c.insert-2.new.self.entries ≡ insert_entry nat_eq old c.self.inside.next c.in_ok-kept.kept =
     on_ok_at c.insert-2.result c.insert-2.ensures.entries (c.insert-2.ensures.succeeds c.in_ok-reserve.ensures.ok) ∙ ap (λ es. insert_entry nat_eq es c.self.inside.next c.in_ok-kept.kept) c.reserve.ensures.entries in
-    let fresh : place_of name (names_in old) ≡ None = ap (place_of name) c.self.view_is ∙ c.requires in
+    let fresh : place_of name (names_in old) ≡ None = ap (place_of name) (c.self.view_is ∙ c.make_room.ensures) ∙ c.requires in
     let one : c.in-Some.next ≡ c.self.inside.next + 1 = search rules in
     table_push old c.insert-2.new.self.entries (number_of c.self.inside.numbers) (number_of c.insert.new.self) c.self.inside.next c.in-Some.next name c.in_ok-kept.kept
     c.self.invariant inserted c.in_ok-kept.ensures.items fresh (λ q. rw (← c.in_ok-key.ensures.items) (number_updated c.in_ok-key.key.items c.self.inside.numbers c.insert.new.self _ c.in_ok-insert.ensures.updates q)) one
@@ -22,4 +22,4 @@ returns-clause-ok c =
     let inserted : c.insert-2.new.self.entries ≡ insert_entry nat_eq old c.self.inside.next c.in_ok-kept.kept =
     on_ok_at c.insert-2.result c.insert-2.ensures.entries (c.insert-2.ensures.succeeds c.in_ok-reserve.ensures.ok) ∙ ap (λ es. insert_entry nat_eq es c.self.inside.next c.in_ok-kept.kept) c.reserve.ensures.entries in
     names_push old c.insert-2.new.self.entries (number_of c.self.inside.numbers) c.self.inside.next c.args.name.now c.in_ok-kept.kept c.self.invariant inserted c.in_ok-kept.ensures.items
-    ∙ ap (λ names. names ++ c.args.name.now ∷ []) c.self.view_is
+    ∙ ap (λ names. names ++ c.args.name.now ∷ []) (c.self.view_is ∙ c.make_room.ensures)

@@ -1,4 +1,4 @@
-use Rattle.std.proofs.Common.{Some, None, Ok, Err, ◌≡◌, ◌≢◌, IfErr, subst, ap, sym, length, ◌∙◌, rules}
+use Rattle.std.proofs.Common.{Some, Ok, Err, ◌≡◌, ◌≢◌, subst, ap, length, ◌∙◌, rules}
 use Rattle.netlist_model.specs.Circuit.{Circuit}
 use Rattle.netlist_model.specs.Sound.{IsInstance}
 use Rattle.netlist_model.specs.Statements.{add_inst_of}
