@@ -5,7 +5,7 @@ ghost use Rattle.netlist_model.specs.Sound.{Fits};
 use cell_arcs::Library;
 use cyc_text::Text;
 use edit_log::{apply, copy_edits};
-use netlist_model::{Edit, Edits, Netlist};
+use netlist_model::{Edit, EditFault, Edits, Netlist};
 use netlist_reader::{read, read_edits, write};
 use std::alloc::Global;
 use std::test::Fail;
@@ -131,15 +131,39 @@ fn edits(alloc: Global, file: &str) -> Result<Edits, Fail> {
     }
 }
 
-/// What copies of the edits make of a netlist: its text, or the fault.
+/// The text of a fault.
+fn fault_text(alloc: Global, fault: EditFault) -> Result<Text, Fail> {
+    let text = format!(in alloc; "{fault:?}")?;
+    Ok(Text::of(alloc, text.as_bytes())?)
+}
+
+/// What the edits make of a netlist: its text, or the fault.
 fn made(alloc: Global, library: &Library, net: &Netlist, edits: &[Edit]) -> Result<Text, Fail>
     requires { Fits library.now net.now.insts }
 {
-    let copies = copy_edits(alloc, edits)?;
-    match apply(library, net, copies.list()) {
-        Ok(made) => Ok(write(alloc, library, &made)?),
-        Err(fault) => Ok(Text::of(alloc, format!(in alloc; "{fault:?}")?.as_bytes())?),
+    match apply(library, net, edits) {
+        Ok(made) => {
+            let text = write(alloc, library, &made);
+            drop(made);
+            Ok(text?)
+        }
+        Err(fault) => fault_text(alloc, fault),
     }
+}
+
+/// What copies of the edits make of a netlist.
+fn made_by_copies(
+    alloc: Global,
+    library: &Library,
+    net: &Netlist,
+    edits: &[Edit],
+) -> Result<Text, Fail>
+    requires { Fits library.now net.now.insts }
+{
+    let copies = copy_edits(alloc, edits)?;
+    let made = made(alloc, library, net, copies.list());
+    drop(copies);
+    made
 }
 
 /// Wants that copies of the edits make this text or fault of a netlist.
@@ -152,7 +176,7 @@ fn expect_made(
 ) -> Result<(), Fail>
     requires { Fits library.now net.now.insts }
 {
-    let made = made(alloc, library, net, edits)?;
+    let made = made_by_copies(alloc, library, net, edits)?;
     if made.bytes() == wanted.as_bytes() {
         Ok(())
     } else {
@@ -184,10 +208,10 @@ fn expect(
     lines: &str,
     wanted: &str,
 ) -> Result<(), Fail> {
-    match netlist(alloc, library, file) {
-        Ok(net) => expect_of(alloc, library, &net, lines, wanted),
-        Err(fail) => Err(fail),
-    }
+    let net = netlist(alloc, library, file)?;
+    let met = expect_of(alloc, library, &net, lines, wanted);
+    drop(net);
+    met
 }
 
 /// Edits of a ring.
@@ -236,9 +260,16 @@ fn edits_that_take_away(alloc: Global, library: &Library) -> Result<(), Fail> {
     expect(alloc, library, TWIN, "swap i3 INV", "At(1, BadPins)")
 }
 
+/// Each row.
+fn all_rows(alloc: Global, library: &Library) -> Result<(), Fail> {
+    edits_of_a_ring(alloc, library)?;
+    edits_that_take_away(alloc, library)
+}
+
 #[test]
 fn makes_what_each_row_says(rt: HostRuntime) -> Result<(), Fail> {
     let library = Library::read(rt.alloc(), CELLS.as_bytes())?;
-    edits_of_a_ring(rt.alloc(), &library)?;
-    edits_that_take_away(rt.alloc(), &library)
+    let met = all_rows(rt.alloc(), &library);
+    drop(library);
+    met
 }

@@ -2,7 +2,7 @@
 use cell_arcs::Library;
 use cyc_text::LineSpan;
 use netlist_model::{Edit, Netlist};
-use netlist_reader::{LineFault, read, read_edit, read_edits};
+use netlist_reader::{LineFault, NetFault, read, read_edit, read_edits};
 use std::alloc::Global;
 use std::test::Fail;
 
@@ -124,7 +124,10 @@ fn edit(alloc: Global, line: &str) -> Result<Edit, LineFault> {
 /// What a line is found to be.
 fn kind(alloc: Global, line: &str) -> &'static str {
     match edit(alloc, line) {
-        Ok(_) => "edit",
+        Ok(edit) => {
+            drop(edit);
+            "edit"
+        }
         Err(LineFault::Syntax) => "syntax",
         Err(LineFault::Memory) => "memory",
     }
@@ -153,13 +156,26 @@ fn counts(net: &Netlist) -> ([usize; 5], Option<u32>) {
     (counts, net.root())
 }
 
+/// How many of each a file says, and the root.
+fn counts_of(
+    alloc: Global,
+    library: &Library,
+    bytes: &[u8],
+) -> Result<([usize; 5], Option<u32>), NetFault> {
+    match read(alloc, library, bytes) {
+        Ok(net) => {
+            let counts = counts(&net);
+            drop(net);
+            Ok(counts)
+        }
+        Err(fault) => Err(fault),
+    }
+}
+
 /// What a file is read as.
 fn outcome(alloc: Global, library: &Library, file: &str) -> Result<String, Fail> {
     let text = file.replace(alloc, '|', "\n")?;
-    let counts = match read(alloc, library, text.as_bytes()) {
-        Ok(net) => Ok(counts(&net)),
-        Err(fault) => Err(fault),
-    };
+    let counts = counts_of(alloc, library, text.as_bytes());
     Ok(format!(in alloc; "{counts:?}")?)
 }
 
@@ -181,31 +197,50 @@ fn tells_edits_from_other_lines(rt: HostRuntime) -> Result<(), Fail> {
     Ok(())
 }
 
+/// The first pin of an instance, and its net.
+fn first_pin(edit: &Edit) -> Option<(&[u8], &[u8])> {
+    match edit {
+        Edit::Inst(inst) => match inst.pins.list().first() {
+            Some(pin) => Some((pin.pin.bytes(), pin.net.bytes())),
+            None => None,
+        },
+        _ => None,
+    }
+}
+
+/// The net of a root, and whether it rises.
+fn root(edit: &Edit) -> Option<(&[u8], bool)> {
+    match edit {
+        Edit::Root(event) => Some((event.net.bytes(), event.rising)),
+        _ => None,
+    }
+}
+
 #[test]
 fn parts_a_pin_word_at_its_first_equals_sign(rt: HostRuntime) -> Result<(), Fail> {
-    let Ok(Edit::Inst(inst)) = edit(rt.alloc(), "inst i1 INV A=B=C") else {
-        return Err("no instance".into());
-    };
-    let pin = inst.pins.list().first().ok_or("no pin")?;
-    assert_eq!(rt; pin.pin.bytes(), b"A".as_slice());
-    assert_eq!(rt; pin.net.bytes(), b"B=C".as_slice());
+    let edit = edit(rt.alloc(), "inst i1 INV A=B=C")?;
+    assert_eq!(rt;
+        first_pin(&edit),
+        Some((b"A".as_slice(), b"B=C".as_slice()))
+    );
+    drop(edit);
     Ok(())
 }
 
 #[test]
 fn parts_an_event_word_at_its_last_byte(rt: HostRuntime) -> Result<(), Fail> {
-    let Ok(Edit::Root(event)) = edit(rt.alloc(), "root A+-") else {
-        return Err("no root".into());
-    };
-    assert_eq!(rt; event.net.bytes(), b"A+".as_slice());
-    assert!(rt; !event.rising);
+    let edit = edit(rt.alloc(), "root A+-")?;
+    assert_eq!(rt; root(&edit), Some((b"A+".as_slice(), false)));
+    drop(edit);
     Ok(())
 }
 
 #[test]
 fn reads_files(rt: HostRuntime) -> Result<(), Fail> {
     let library = Library::read(rt.alloc(), CELLS.as_bytes())?;
-    assert_eq!(rt; first_file_amiss(rt.alloc(), &library)?, None);
+    let amiss = first_file_amiss(rt.alloc(), &library);
+    drop(library);
+    assert_eq!(rt; amiss?, None);
     Ok(())
 }
 

@@ -227,12 +227,16 @@ fn inst(alloc: Global, words: &str) -> Result<Edit, Fail> {
 
 fn fork(alloc: Global, words: &str) -> Result<Edit, Fail> {
     let mut words = words.split(' ');
-    let name = text(alloc, words.next())?;
-    let root = event(alloc, words.next())?;
-    let fast = event(alloc, words.next())?;
-    let slow = event(alloc, words.next())?;
+    let name = words.next();
+    let root = words.next();
+    let fast = words.next();
+    let slow = words.next();
     let margin = number(words.next())?;
     let offset = number(words.next())?;
+    let name = text(alloc, name)?;
+    let root = event(alloc, root)?;
+    let fast = event(alloc, fast)?;
+    let slow = event(alloc, slow)?;
     Ok(Edit::Fork(ForkText {
         name,
         root,
@@ -313,15 +317,47 @@ fn counts(netlist: &Netlist) -> [usize; 5] {
     ]
 }
 
+/// The number of an event of the netlist.
+fn event_number(alloc: Global, netlist: &Netlist, word: Option<&str>) -> Result<u32, Fail> {
+    let event = event(alloc, word)?;
+    let number = netlist.event(event.net.bytes(), event.rising);
+    Ok(number.ok_or("no event")?)
+}
+
 /// The offset between two events.
-fn offset(alloc: Global, netlist: &Netlist, words: &str) -> Result<u32, Fail> {
+fn offset(alloc: Global, netlist: &Netlist, words: &str) -> Result<String, Fail> {
     let mut words = words.split(' ');
     let _kind = words.next();
-    let source = event(alloc, words.next())?;
-    let target = event(alloc, words.next())?;
-    let source = netlist.event(source.net.bytes(), source.rising);
-    let target = netlist.event(target.net.bytes(), target.rising);
-    Ok(netlist.offset(source.ok_or("no event")?, target.ok_or("no event")?))
+    let source = event_number(alloc, netlist, words.next())?;
+    let target = event_number(alloc, netlist, words.next())?;
+    Ok(format!(in alloc; "{}", netlist.offset(source, target))?)
+}
+
+/// What stands in the netlist.
+fn stands(alloc: Global, netlist: &Netlist) -> Result<String, Fail> {
+    Ok(format!(in alloc; "{:?}", counts(netlist))?)
+}
+
+/// What stands in a copy of the netlist.
+fn stands_in_a_copy(alloc: Global, netlist: &Netlist) -> Result<String, Fail> {
+    let copy = netlist.copy()?;
+    let stands = stands(alloc, &copy);
+    drop(copy);
+    stands
+}
+
+/// Whether the netlist is whole.
+fn whole(alloc: Global, library: &Library, netlist: &Netlist) -> Result<String, Fail>
+    requires { Fits library.now netlist.now.insts }
+{
+    Ok(format!(in alloc; "{:?}", netlist.check_whole(library))?)
+}
+
+/// How many rules the netlist has.
+fn rules(alloc: Global, library: &Library, netlist: &Netlist) -> Result<String, Fail>
+    requires { Fits library.now netlist.now.insts }
+{
+    Ok(format!(in alloc; "{}", netlist.rule_count(library))?)
 }
 
 /// What a question answers.
@@ -334,11 +370,11 @@ fn asked(
     requires { Fits library.now netlist.now.insts }
 {
     match question {
-        "whole" => Ok(format!(in alloc; "{:?}", netlist.check_whole(library))?),
-        "rules" => Ok(format!(in alloc; "{}", netlist.rule_count(library))?),
-        "stands" => Ok(format!(in alloc; "{:?}", counts(netlist))?),
-        "copy" => Ok(format!(in alloc; "{:?}", counts(&netlist.copy()?))?),
-        _ => Ok(format!(in alloc; "{}", offset(alloc, netlist, question)?)?),
+        "whole" => whole(alloc, library, netlist),
+        "rules" => rules(alloc, library, netlist),
+        "stands" => stands(alloc, netlist),
+        "copy" => stands_in_a_copy(alloc, netlist),
+        _ => offset(alloc, netlist, question),
     }
 }
 
@@ -357,6 +393,7 @@ fn answer(
     }
     let edit = edit_of(alloc, line)?;
     let answer = netlist.make(library, &edit);
+    drop(edit);
     Ok(format!(in alloc; "{answer:?}")?)
 }
 
@@ -387,7 +424,9 @@ fn first_wrong<'a>(
     rows: &'a str,
 ) -> Result<Option<&'a str>, Fail> {
     let mut netlist = Netlist::empty(alloc)?;
-    first_mismatch(alloc, library, &mut netlist, rows)
+    let wrong = first_mismatch(alloc, library, &mut netlist, rows);
+    drop(netlist);
+    wrong
 }
 
 /// The first line of all rows on small netlists that answers something else than it says.
@@ -418,7 +457,9 @@ fn first_wrong_of_all(alloc: Global, library: &Library) -> Result<Option<&'stati
 #[test]
 fn answers_each_row(rt: HostRuntime) -> Result<(), Fail> {
     let library = Library::read(rt.alloc(), CELLS.as_bytes())?;
-    assert_eq!(rt; first_wrong_of_all(rt.alloc(), &library)?, None);
+    let wrong = first_wrong_of_all(rt.alloc(), &library);
+    drop(library);
+    assert_eq!(rt; wrong?, None);
     Ok(())
 }
 
@@ -449,6 +490,8 @@ fn gate_rows(alloc: Global) -> Result<String, AllocError> {
 fn counts_as_many_rules_as_may_be(rt: HostRuntime) -> Result<(), Fail> {
     let library = Library::read(rt.alloc(), CELLS.as_bytes())?;
     let rows = gate_rows(rt.alloc())?;
-    assert_eq!(rt; first_wrong(rt.alloc(), &library, rows.as_str())?, None);
+    let wrong = first_wrong(rt.alloc(), &library, rows.as_str());
+    drop(library);
+    assert_eq!(rt; wrong?, None);
     Ok(())
 }

@@ -34,13 +34,22 @@ fn text_of(alloc: Global, row: &str) -> Result<String, Fail> {
     Ok(text.as_str().replace(alloc, '~', "\r")?)
 }
 
-/// What is written of a file.
-fn written(alloc: Global, library: &Library, file: &str) -> Result<Text, Fail> {
-    let file = text_of(alloc, file)?;
-    match read(alloc, library, file.as_bytes()) {
-        Ok(netlist) => Ok(write(alloc, library, &netlist)?),
+/// What is written of the bytes of a file.
+fn written_of(alloc: Global, library: &Library, bytes: &[u8]) -> Result<Text, Fail> {
+    match read(alloc, library, bytes) {
+        Ok(netlist) => {
+            let text = write(alloc, library, &netlist);
+            drop(netlist);
+            Ok(text?)
+        }
         Err(_) => Err("refused".into()),
     }
+}
+
+/// What is written of the file that a row stands for.
+fn written(alloc: Global, library: &Library, row: &str) -> Result<Text, Fail> {
+    let file = text_of(alloc, row)?;
+    written_of(alloc, library, file.as_bytes())
 }
 
 /// The first file of which something else is written than its row says.
@@ -59,6 +68,8 @@ fn first_amiss(alloc: Global, library: &Library) -> Result<Option<&'static str>,
 #[test]
 fn writes_the_canonical_text(rt: HostRuntime) -> Result<(), Fail> {
     let library = Library::read(rt.alloc(), CELLS.as_bytes())?;
-    assert_eq!(rt; first_amiss(rt.alloc(), &library)?, None);
+    let amiss = first_amiss(rt.alloc(), &library);
+    drop(library);
+    assert_eq!(rt; amiss?, None);
     Ok(())
 }
