@@ -132,7 +132,20 @@ fn fill(alloc: Global, library: &Library, net: &mut Netlist) -> Result<(), Fail>
     add_ticks(alloc, library, net)
 }
 
-/// The rules of the two cells, each on a line.
+/// The rules of a netlist once it is filled, each on a line.
+fn filled<R: Threads + Sync>(
+    rt: &R,
+    alloc: Global,
+    library: &Library,
+    net: &mut Netlist,
+) -> Result<String, Fail>
+    requires { Fits library.now net.old.insts }
+{
+    fill(alloc, library, net)?;
+    expanded(rt, alloc, library, net)
+}
+
+/// The rules of the two cells, each on a line. The netlist is let go by `drop`, since the destructor is then proved apart.
 #[tactic(auto, using(crate::proofs::Nothing::fits_nothing))]
 fn mixed_rules<R: Threads + Sync>(
     rt: &R,
@@ -140,10 +153,9 @@ fn mixed_rules<R: Threads + Sync>(
     library: &Library,
 ) -> Result<String, Fail> {
     let mut net = Netlist::empty(alloc)?;
-    match fill(alloc, library, &mut net) {
-        Ok(()) => expanded(rt, alloc, library, &net),
-        Err(fault) => Err(fault),
-    }
+    let rules = filled(rt, alloc, library, &mut net);
+    drop(net);
+    rules
 }
 
 #[test]
