@@ -1,11 +1,12 @@
 #!/usr/bin/env bash
-# Runs `expand` and `analyze` on hostile files, file words and standard outputs, and prints for each kind the runs, the slowest in
+# Runs the five commands on hostile files, file words and standard outputs, and prints for each kind the runs, the slowest in
 # milliseconds, the greatest resident memory in megabytes and, for files of a megabyte or more, that as a multiple of the file's bytes.
-# A small library and two small netlists are cut at every byte, and bytes are replaced by each of nine; the other files have up to one
-# byte more than the longest that is read. Some runs get little memory. The last lines tell the number of runs, the slowest and the most memory.
-# Each run must end by itself within two minutes with a status of the table (0, 2, 3, 4, 6, 7, 8) that its kind allows, must leave
-# standard error empty, and must have written what the status stands for: with 0 a whole text, with 2, 3, 4 or 6 one fault line with that
-# status's front, with 8 nothing; and a file that is read stays as it was. Each run that breaks a rule is told, and the script ends with 1.
+# A small library, two small netlists, a file of edits and a script are cut at every byte, and bytes are replaced by each of nine; the other
+# files have up to one byte more than the longest that is read. Some runs get little memory. The last lines tell the number of runs, the
+# slowest and the most memory.
+# Each run must end by itself within two minutes with a status of the table (0, 2 to 8) that its kind allows, must leave standard error
+# empty, and must have written what the status stands for: with 0 a whole text, with 2 to 6 one fault line with that status's front, with 8
+# nothing; and a file that is read stays as it was. Each run that breaks a rule is told, and the script ends with 1.
 # The memory of this script's own Python is the least that is seen of any run. It takes some minutes.
 # Use: bench/hostile/run.sh [PROGRAM], where PROGRAM is the built program (crates/cyclone/out/cyclone if left out).
 set -eu
@@ -56,6 +57,42 @@ fork f A+ A+ A- 3 1
 """
 
 
+EDITS = b"""net B # one more
+const one
+inst c2 C2 A=A B=B Z=B
+delay c2 A 1 2
+tick B+ B+ 1
+root B-
+fork g B+ B+ B- 2 1
+move c1 A B
+move c1 A A
+swap c1 C2
+delfork f
+root A+
+tick B+ B+ 0
+delfork g
+delinst c2
+delnet B
+delnet one
+"""
+SCRIPT = b"""# one session
+pin
+period
+delay i1 A 15 10
+draft
+publish
+cycle
+arrival A-
+slack f
+report
+pin 0
+net D
+drop
+rebase
+"""
+NINE = (0, 10, 13, 32, 35, 61, 127, 128, 255)
+
+
 class Kind:
     def __init__(self):
         self.runs, self.slowest, self.memory, self.bytes = 0, 0.0, 0, 0
@@ -83,9 +120,48 @@ def is_report(text):
     return bool(found) and int(found[1]) == found[2].count(b"\n")
 
 
+def is_netlist(text):
+    return text == b"" or bool(re.fullmatch(rb"(?:(?:net|const|inst|delay|tick|root|fork) [^\n]+\n)+", text))
+
+
+def is_served(text, scripts):
+    """An order, and behind it each session with its calls, numbered from 1."""
+    lines, at, session, reports = text.split(b"\n"), 0, 0, False
+    if not re.fullmatch(rb"order(?: \d+)*", lines[0]) or lines[-1] != b"":
+        return False
+    for line in lines[1:-1]:
+        if reports:
+            reports = line != b"end"
+        elif line == b"session %d" % (session + 1):
+            session, at = session + 1, 0
+        else:
+            at += 1
+            if not line.startswith(b"%d " % at):
+                return False
+            reports = line == b"%d report" % at
+    return session == scripts and not reports
+
+
+def is_ring(text):
+    form = rb"bench \d+\nnets \d+ events \d+ rules \d+\nperiod \d+/\d+\ncycle \d+ \d+ \d+\narrivals -?\d+/\d+ -?\d+/\d+\nend\n"
+    return bool(re.fullmatch(form, text))
+
+
+def is_whole_text(command, words, text):
+    if command == "expand":
+        return is_rules_text(text)
+    if command == "analyze":
+        return is_report(text)
+    if command == "apply":
+        return is_netlist(text)
+    if command == "bench":
+        return is_ring(text)
+    return is_served(text, len([word for word in words[2:] if word != b"--workers"]) - words.count(b"--workers"))
+
+
 def is_text_of(status, command, words, text):
     if status == 0:
-        return is_rules_text(text) if command == "expand" else is_report(text)
+        return is_whole_text(command, words, text)
     if status == 8:
         return text == b""
     if text[-1:] != b"\n" or text.count(b"\n") != 1:
@@ -94,7 +170,7 @@ def is_text_of(status, command, words, text):
         return text == b"fault: usage\n"
     if status == 6:
         return text in [front + word + b"\n" for front in (b"fault: read ", b"fault: too long ") for word in words]
-    return text.startswith({3: b"fault: library L", 4: b"fault: netlist "}[status])
+    return text.startswith({3: (b"fault: library L",), 4: (b"fault: netlist ", b"fault: edits "), 5: (b"fault: script ",)}[status])
 
 
 def output(kind):
@@ -160,7 +236,7 @@ def run(name, command, words, allowed, size=0, kind="file", room=0):
         if kind == "file":
             with open("out", "rb") as file:
                 text = file.read(4 * LONGEST)
-            if status in (0, 2, 3, 4, 6, 8) and not is_text_of(status, command, words, text):
+            if status in (0, 2, 3, 4, 5, 6, 8) and not is_text_of(status, command, words, text):
                 faults.append("status %d with the text %r" % (status, text[:200]))
         if os.path.getsize("err"):
             faults.append("standard error has %d bytes" % os.path.getsize("err"))
@@ -228,7 +304,7 @@ def small_files():
         put("cut.toml", LIBRARY[:at])
         for command in COMMANDS:
             run("library cut", command, ["cut.toml", "ring.net"], {0, 3, 4})
-    for byte in (0, 10, 13, 32, 35, 61, 127, 128, 255):
+    for byte in NINE:
         for at in range(len(EVERY_LINE)):
             put("bad.net", EVERY_LINE[:at], bytes([byte]), EVERY_LINE[at + 1:])
             for command in COMMANDS:
@@ -244,14 +320,103 @@ def small_files():
         run("both empty", command, ["empty", "empty"], {0} if command == "expand" else {4})
 
 
+def small_edits_and_scripts():
+    put("lib.toml", LIBRARY)
+    put("ring.net", RING)
+    put("every.net", EVERY_LINE)
+    put("edits", EDITS)
+    put("script", SCRIPT)
+    run("edits", "apply", ["lib.toml", "every.net", "edits"], {0})
+    run("script", "serve", ["lib.toml", "ring.net", "script"], {0})
+    for at in range(len(EDITS) + 1):
+        put("cut.edits", EDITS[:at])
+        run("edits cut", "apply", ["lib.toml", "every.net", "cut.edits"], {0, 4})
+    for at in range(len(SCRIPT) + 1):
+        put("cut.txt", SCRIPT[:at])
+        run("script cut", "serve", ["lib.toml", "ring.net", "cut.txt", "script"], {0, 5})
+    for byte in NINE:
+        for at in range(len(EDITS)):
+            put("bad.edits", EDITS[:at], bytes([byte]), EDITS[at + 1:])
+            run("edits byte replaced", "apply", ["lib.toml", "every.net", "bad.edits"], {0, 4})
+        for at in range(len(SCRIPT)):
+            put("bad.txt", SCRIPT[:at], bytes([byte]), SCRIPT[at + 1:])
+            run("script byte replaced", "serve", ["lib.toml", "ring.net", "bad.txt"], {0, 5})
+    put("empty", b"")
+    run("empty edits", "apply", ["lib.toml", "ring.net", "empty"], {0})
+    run("empty netlist", "apply", ["lib.toml", "empty", "edits"], {4})
+    run("empty script", "serve", ["lib.toml", "ring.net", "empty"], {0})
+    run("empty netlist", "serve", ["lib.toml", "empty", "script"], {4})
+    for workers in ("1", "2", "64"):
+        run("32 scripts that are one file", "serve", ["lib.toml", "ring.net", "--workers", workers] + ["script"] * 32, {0})
+    run("33 scripts", "serve", ["lib.toml", "ring.net"] + ["script"] * 33, {2})
+    run("one file for all", "serve", ["lib.toml"] * 3, {4})
+    run("one file for all", "serve", ["ring.net"] * 3, {3})
+    run("one file for all", "serve", ["script"] * 3, {3})
+    run("one file for all", "apply", ["lib.toml"] * 3, {4})
+    run("netlist for the edits", "apply", ["lib.toml", "ring.net", "ring.net"], {4})
+    run("netlist for the script", "serve", ["lib.toml", "ring.net", "ring.net"], {0})
+    run("library for the script", "serve", ["lib.toml", "ring.net", "lib.toml"], {5})
+    for word, allowed in ((b"none", {6}), (b"folder", {6}), (b"/dev/zero", {6}), (b"/dev/null", {0}), (b"", {2}), (b"-", {2}), (b"a\x7f", {2})):
+        os.makedirs("folder", exist_ok=True)
+        run("edits word", "apply", ["lib.toml", "ring.net", word], allowed)
+        run("script word", "serve", ["lib.toml", "ring.net", word], allowed)
+        run("second script word", "serve", ["lib.toml", "ring.net", "script", word], allowed)
+    for words in ([], ["0"], ["2"], ["4097"], ["03"], ["3x"], ["-3"], ["9" * 400], ["3", "3"], ["3", "--workers"], ["3", "--workers", "0"],
+                  ["3", "--workers", "65"], ["3", "--workers", "1", "--workers", "1"]):
+        run("words of a ring", "bench", words, {2})
+    for words in (["3"], ["4096"], ["4096", "--workers", "64"]):
+        run("a ring", "bench", words, {0})
+    for words in ([], ["lib.toml"], ["lib.toml", "ring.net"], ["lib.toml", "ring.net", "--workers", "0", "script"],
+                  ["lib.toml", "ring.net", "script", "--workers", "1"], ["lib.toml", "ring.net", "--workers", "1"]):
+        run("words of sessions", "serve", words, {2})
+
+
+def long_edits_and_scripts():
+    files = [
+        ("one word", lambda f: put_times(f, LONGEST, b"a"), {4}, {5}),
+        ("one name", lambda f: put_times(f, LONGEST, b"a", b"net "), {4}, {0}),
+        ("one comment", lambda f: put_times(f, LONGEST, b"#"), {0}, {0}),
+        ("one line of spaces", lambda f: put_times(f, LONGEST, b" "), {0}, {0}),
+        ("empty lines", lambda f: put_times(f, LONGEST, b"\n"), {0}, {0}),
+        ("comments", lambda f: put_times(f, LONGEST, b"#\n"), {0}, {0}),
+        ("one-letter words", lambda f: put_times(f, LONGEST, b"a\n"), {4}, {5}),
+        ("delays", lambda f: put_times(f, LONGEST, b"delay i1 A 1 2\n"), {0}, {5}),
+        ("ticks set and taken away", lambda f: put_times(f, LONGEST, b"tick A+ A- 1\ntick A+ A- 0\n"), {0}, {5}),
+        ("nets made and taken away", lambda f: put_times(f, LONGEST, b"net D\ndelnet D\n"), {0}, {5}),
+        ("moves", lambda f: put_times(f, LONGEST, b"move i1 A B\nmove i1 A A\n"), {0}, {5}),
+        ("swaps", lambda f: put_times(f, LONGEST, b"swap i1 INV\n"), {0}, {5}),
+        ("instances", lambda f: put_numbered(f, LONGEST, b"inst j%d C2 A=A B=A Z=A\n"), {4}, {5}),
+        ("pins", lambda f: put_times(f, LONGEST, b"pin\n"), {4}, {5}),
+        ("reports", lambda f: put_times(f, LONGEST, b"report\n"), {4}, {5}),
+        ("zeros", lambda f: put_times(f, LONGEST, b"\0"), {4}, {5}),
+        ("one byte too long", lambda f: put_times(f, LONGEST + 1, b"#"), {6}, {6}),
+    ]
+    put("lib.toml", LIBRARY)
+    put("ring.net", RING)
+    for name, make, applied, served in files:
+        make("long.txt")
+        run("16 MiB edits: " + name, "apply", ["lib.toml", "ring.net", "long.txt"], applied, os.path.getsize("long.txt"))
+        run("16 MiB script: " + name, "serve", ["lib.toml", "ring.net", "long.txt"], served, os.path.getsize("long.txt"))
+    put_times("most.txt", 4 * 4096, b"pin\n")
+    put_times("drafts.txt", 4096 * 15, b"delay i1 A 1 2\n", b"pin\n")
+    run("as many calls as may be", "serve", ["lib.toml", "ring.net", "most.txt"], {0})
+    run("as many calls as may be", "serve", ["lib.toml", "large.net", "most.txt"], {0})
+    run("as many calls as may be", "serve", ["lib.toml", "ring.net", "drafts.txt"], {0})
+
+
 def little_memory():
     """Runs with from eight to some 700 megabytes of memory."""
     put("lib.toml", LIBRARY)
     put("ring.net", RING)
     put_times("pins.net", LONGEST, b" A=A", b"net A\ninst i INV")
     put_times("inputs.toml", LONGEST, b'"A",', b'[cell.W]\noutput = "Z"\narcs = []\ninputs = [', b"]\n")
+    put("two.txt", b"pin\ndelay i1 A 3 3\npublish\nrebase\nreport\n")
+    put_times("more.edits", LONGEST // 4, b"delay i1 A 1 2\n")
     room = 8000
     while room < 800000:
+        run("little memory", "apply", ["lib.toml", "ring.net", "more.edits"], {0}, room=room)
+        run("little memory", "serve", ["lib.toml", "large.net", "two.txt", "two.txt"], {0}, room=room)
+        run("little memory", "bench", ["4096"], {0}, room=room)
         for command in COMMANDS:
             run("little memory", command, ["lib.toml", "ring.net"], {0}, room=room)
             run("little memory", command, ["lib.toml", "large.net"], {0}, room=room)
@@ -406,6 +571,13 @@ def outputs():
         for library, netlist in cases:
             for command in COMMANDS:
                 run("standard output " + kind, command, [library, netlist], {7}, kind=kind)
+    put("two.txt", b"pin\nreport\n" * 32)
+    put("some.edits", b"net D\n")
+    for kind in ("closed", "full", "broken", "broken, signal", "cut"):
+        run("standard output " + kind, "serve", ["lib.toml", "large.net", "two.txt", "two.txt"], {7}, kind=kind)
+        run("standard output " + kind, "apply", ["lib.toml", "large.net", "some.edits"], {7}, kind=kind)
+        if kind != "cut":
+            run("standard output " + kind, "bench", ["3"], {7}, kind=kind)
     for command in COMMANDS:
         run("standard output cut", command, ["lib.toml", "large.net"], {7}, kind="cut")
     with open("lib.toml", "rb") as library, open("ring.net", "rb") as netlist:
@@ -417,9 +589,11 @@ def outputs():
 
 own = resource.getrusage(resource.RUSAGE_SELF)
 small_files()
+small_edits_and_scripts()
 file_words()
 outputs()
 little_memory()
+long_edits_and_scripts()
 long_netlists()
 long_libraries()
 

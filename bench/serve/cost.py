@@ -7,11 +7,12 @@ says so and ends with 1. No time is asserted. Printed are, with the resident mem
 
 - each command alone: `analyze`; the same of the netlist without its root, which ends when all lines are read (the reading); `apply` of one
   edit; `serve` of one script without calls (the opening, which is the reading and one analysis); the analysis is the opening less the reading;
-- `serve` of one kind of call alone, in microseconds a call beyond the opening: edits of each kind, pins, drops, queries, reports;
+- `serve` of one kind of call alone, in microseconds a call beyond the opening: edits of each kind, pins, rebases, drops, queries, reports;
+  those of which each copies the netlist are fewer;
 - `serve` of 32 scripts of 4,096 calls: of edits and drops; of pins and queries; and of publishes, edits, pins and queries together, where
   either one session makes all publishes, or each its share, mostly stale, behind a rebase. Of these the ratio to the opening and as many
-  analyses, and twice as many copies of a netlist (the time of a pin), made one after the other; and the memory a version, beyond the same
-  scripts with `draft` in place of `publish`.
+  analyses, and as many copies of a netlist as the calls take (the time of a rebase of one edit), made one after the other; and the memory a
+  version, beyond the same scripts with `draft` in place of `publish`.
 
 This script's own Python is the least memory that is seen of any run; the files are made in a process of their own.
 
@@ -26,6 +27,7 @@ import time
 
 TOP = os.path.dirname(os.path.dirname(os.path.dirname(os.path.abspath(__file__))))
 SESSIONS, CALLS, REPORTS = 32, 4096, 64
+COPYING = 256
 SENSES = ("pos neg non", "non pos neg", "non non", "pos pos neg neg", "neg neg neg pos", "pos neg pos pos")
 EDGES = {"pos": [(0, 0), (1, 1)], "neg": [(1, 0), (0, 1)], "non": [(0, 0), (1, 0), (0, 1), (1, 1)]}
 
@@ -92,6 +94,23 @@ def in_child(make, *given):
         sys.exit("the files were not made")
 
 
+def copies_of(script):
+    """How often a session copies the pinned netlist: for the first edit behind a pin or a drop, and for a rebase of a draft."""
+    copies, drafted, copied = 0, False, False
+    for call in script:
+        word = call.split()[0]
+        if word in ("delay", "move", "swap", "root", "const", "inst", "tick", "fork"):
+            copies += not copied
+            drafted = copied = True
+        elif word in ("pin", "drop"):
+            drafted = copied = drafted and word == "pin"
+        elif word == "publish":
+            drafted = False
+        elif word == "rebase":
+            copies += drafted
+    return copies
+
+
 class Costs:
     def __init__(self, program, nets, publishes, workers):
         self.program, self.nets, self.publishes, self.workers = program, nets, publishes, workers
@@ -146,10 +165,12 @@ class Costs:
                                                                   "tick %s %s 0" % (event(at % nets), event(at * 7 % nets))]),
             ("edits: a fork, and away", ["pin"], lambda at: ["fork g n0+ n1+ n2+ 0 0", "delfork g"]),
             ("edits: refused, no such instance", ["pin"], lambda at: ["delay nobody I0 1 1"]),
-            ("pins (each copies the netlist)", [], lambda at: ["pin"]),
+            ("pins", [], lambda at: ["pin"]),
             ("pins of version 0", [], lambda at: ["pin 0"]),
             ("rebases of an empty draft", ["pin"], lambda at: ["rebase"]),
-            ("drops", ["pin"], lambda at: ["drop"]),
+            ("rebases of one edit (each copies the netlist)", ["pin", self.edit(0)], lambda at: ["rebase"], COPYING),
+            ("first edits, and drops (each copies)", ["pin"], lambda at: [self.edit(at), "drop"], COPYING),
+            ("drops of no edit", ["pin"], lambda at: ["drop"]),
             ("queries: period", ["pin"], lambda at: ["period"]),
             ("queries: cycle", ["pin"], lambda at: ["cycle"]),
             ("queries: arrival", ["pin"], lambda at: ["arrival " + event(at * 17 % (2 * nets))]),
@@ -157,10 +178,10 @@ class Costs:
             ("queries: draft", ["pin"], lambda at: ["draft"]),
         ]
 
-    def one_kind(self, name, front, calls):
+    def one_kind(self, name, front, calls, most=CALLS):
         at = 0
         script = list(front)
-        while len(script) < CALLS - 1:
+        while len(script) < most - 1:
             script += calls(at)
             at += 1
         seconds, memory = self.serve([script])
@@ -184,7 +205,7 @@ class Costs:
     def together(self, name, scripts, publishes=0):
         assert sum(len(script) for script in scripts) == CALLS and len(scripts) == SESSIONS
         seconds, memory = self.serve(scripts)
-        copies = sum(call in ("pin", "pin 0", "rebase", "drop") for script in scripts for call in script) + 2 * publishes
+        copies = sum(copies_of(script) for script in scripts) + publishes
         alone = self.opening + publishes * self.analysis + copies * self.copy
         published, refused = self.counted("published")
         print("%-44s seconds %8.3f  megabytes %7.1f  published %3d  refused %4d  analyses and %d copies after one another %8.3f  ratio %.2f" % (
@@ -235,7 +256,7 @@ class Costs:
         self.alone()
         for kind in self.kinds():
             each = self.one_kind(*kind)
-            if kind[0].startswith("pins (each"):
+            if kind[0].startswith("rebases of one edit"):
                 self.copy = each
         self.reports()
         self.together("32 scripts: edits and drops", self.local_scripts())
