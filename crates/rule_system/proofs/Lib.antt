@@ -16,6 +16,7 @@ pub mod ArrivalsExist
 pub mod Lowest
 pub mod PeriodExists
 pub mod Dead
+mod Ends
 pub mod PlainWalks
 pub mod GreatestWeight
 pub mod PlainPeriod

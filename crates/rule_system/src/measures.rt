@@ -1,5 +1,5 @@
 //! Measures of rules and walks: weights, what a rule offers its target, sums along a walk, and whether rule numbers make one.
-ghost use Rattle.std.specs.Prelude.{◌≡◌, ◌<◌, ◌≤◌, ◌+ℤ◌, All, IfSome, true, length};
+ghost use Rattle.std.specs.Prelude.{◌≡◌, ◌<◌, ◌≤◌, ◌+ℤ◌, ℕ, All, IfNone, IfSome, true, false, length};
 ghost use Rattle.cyc_num.specs.Within.{LiesWithin};
 ghost use Rattle.rule_system.specs.Bounds.{IsRule};
 ghost use Rattle.rule_system.specs.Rules.{delay_sum, offset_sum};
@@ -61,7 +61,8 @@ pub fn offset_of(rules: &[Rule], walk: &[u32]) -> u64
 
 /// Where rule numbers lead to from an event, if they make a walk.
 pub fn end_of(rules: &[Rule], start: u32, walk: &[u32]) -> Option<u32>
-    ensures { IfSome result (λ end. IsWalk rules.now start walk.now end) }
+    ensures some { IfSome result (λ end. IsWalk rules.now start walk.now end) }
+    ensures none { IfNone result ((end : ℕ) → IsWalk rules.now start walk.now end → ⊥) }
 {
     let mut at = start;
     'steps: for number in walk {
@@ -75,7 +76,8 @@ pub fn end_of(rules: &[Rule], start: u32, walk: &[u32]) -> Option<u32>
 
 /// Whether rule numbers make a cycle.
 pub fn is_cycle(rules: &[Rule], walk: &[u32]) -> bool
-    ensures { result ≡ true → IsCycle rules.now walk.now }
+    ensures cycle { result ≡ true → IsCycle rules.now walk.now }
+    ensures none { result ≡ false → IsCycle rules.now walk.now → ⊥ }
 {
     let Some(first) = walk.first() else {
         return false;
@@ -83,5 +85,8 @@ pub fn is_cycle(rules: &[Rule], walk: &[u32]) -> bool
     let Some(rule) = rules.get(*first as usize) else {
         return false;
     };
-    end_of(rules, rule.source, walk) == Some(rule.source)
+    match end_of(rules, rule.source, walk) {
+        Some(end) => end == rule.source,
+        None => false,
+    }
 }
