@@ -1,3 +1,4 @@
+//! The analysis of a system, or its first fault.
 ghost use Rattle.std.specs.Prelude.{◌<◌, ◌≤◌, All, IfOk, IfErr};
 ghost use Rattle.liveness_check.specs.Liveness.{IsFault};
 ghost use Rattle.rule_system.specs.Walks.{IsConnected, IsLive};

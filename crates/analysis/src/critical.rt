@@ -1,3 +1,4 @@
+//! The critical cycle: the first cycle of the tight rules.
 ghost use Rattle.std.specs.Prelude.{◌≡◌, ◌<◌, ◌≤◌, ◌+ℤ◌, ℕ, All, IfOk, length};
 ghost use Rattle.std.specs.Ordering.{int_eq};
 ghost use Rattle.cyc_num.specs.Within.{LiesWithin};

@@ -1,3 +1,4 @@
+//! Why a system has no analysis.
 ghost use Rattle.std.specs.Prelude.{◌≡◌};
 ghost use Rattle.analysis.specs.declared.faults.AnalyseFault.TheVariants.{Memory};
 ghost use Rattle.analysis.specs.Faults.{live_fault};

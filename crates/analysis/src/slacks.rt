@@ -1,3 +1,4 @@
+//! The slacks of forks, root by root, each over the arrivals from the fork's own root.
 ghost use Rattle.std.specs.Prelude.{◌≡◌, ◌<◌, ◌≤◌, ℕ, All, IfOk, length, true, false};
 ghost use Rattle.cyc_num.specs.Within.{LiesWithin};
 ghost use Rattle.rule_system.specs.Walks.{IsConnected};

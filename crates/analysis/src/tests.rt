@@ -1,3 +1,4 @@
+//! Rows of systems with their analyses or faults, and how often arrivals are made.
 ghost use Rattle.std.specs.Prelude.{All, IfOk};
 ghost use Rattle.rule_system.specs.Bounds.{IsRule};
 ghost use Rattle.analysis.specs.Forks.{IsFork};

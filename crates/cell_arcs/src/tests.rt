@@ -1,3 +1,4 @@
+// Rows of libraries, and what each is read as.
 use crate::{Arcs, CellArc, Library, LibraryFault, Pins, Sense};
 use cyc_text::{Limit, Text};
 use std::alloc::{AllocError, Global};

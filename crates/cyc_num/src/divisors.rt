@@ -1,3 +1,4 @@
+//! The greatest common divisor.
 ghost use Rattle.std.specs.Int.{IsGcd};
 
 /// The greatest common divisor; of 0 and 0 it is 0.

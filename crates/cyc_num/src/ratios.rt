@@ -1,3 +1,4 @@
+//! Ratios in lowest terms.
 ghost use Rattle.std.specs.Prelude.{◌≡◌, ◌*◌, ◌<◌, ◌≤◌};
 ghost use Rattle.std.specs.Ordering.{nat_cmp};
 ghost use Rattle.cyc_num.specs.Ratio.{IsLowest};

@@ -1,3 +1,4 @@
+//! Rows of divisors, ratios and their order.
 use crate::{Ratio, gcd};
 use std::cmp::Ordering;
 use std::test::Fail;

@@ -1,3 +1,5 @@
+// A place where a test can hold a thread.
+
 /// A place where a test can hold a thread. It has no meaning beyond returning.
 pub trait Gate {
     /// Returns. Session `s` calls it with `who` = `s` before each shared call; worker `w`, counted from 1, with `who` = 1000 + `w` before

@@ -1,4 +1,11 @@
 //! What reaches outside: files, a sink and a gate, as traits with a written meaning; in memory and real.
+//!
+//! The promise: what is read is the file's bytes where files are told, what is written is appended where bytes are told, and a
+//! read or a write fails only where a count rose. In memory all is told, and it is exact which call fails and what it leaves.
+//!
+//! What contracts see of a shelf and a sink is defined in `specs/Seen`, files in `specs/Files`, the states in memory in
+//! `specs/MemoryShelf` and `specs/MemorySink`. The clauses of the traits are all that the crates above know: add none that the
+//! real file system does not keep, and no fault without a count that rises.
 #![tactic(auto)]
 
 mod file_shelf;

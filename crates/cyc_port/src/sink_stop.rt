@@ -1,3 +1,5 @@
+// Which calls of a sink in memory fail.
+
 /// A call of a sink in memory that fails.
 #[derive(Clone, Copy, Debug)]
 pub struct SinkStop {

@@ -1,3 +1,4 @@
+// Shelves and sinks, in memory and real, and what their calls answer and leave.
 use crate::file_shelf::text_of;
 use crate::{
     FileShelf, Gate, MemShelf, MemSink, NamedFile, OpenGate, Shelf, ShelfFault, Sink, SinkFailed,

@@ -1,4 +1,11 @@
 //! Texts as lists of bytes; lines, words, names and numbers in them, read and written.
+//!
+//! The promise: lines, words, names and numbers are those of their definitions, what the pen adds is exactly that, and what
+//! is written is read back (the laws).
+//!
+//! The definitions stand in `specs/`: words in `Words`, names in `Name`, numbers in `Number`, lines and spans in `Spans`, written
+//! texts in `Written`. Every format of the program stands on them, so a change there changes what each file means. Reading
+//! takes no memory: lines and words are lent.
 #![tactic(auto)]
 
 mod laws;

@@ -1,3 +1,5 @@
+// What a file can have too many of.
+
 /// What a file can have too many of.
 #[derive(Clone, Copy, Debug, PartialEq, Eq)]
 pub enum Limit {

@@ -1,3 +1,4 @@
+// Rows of lines, words, names and numbers, read and written.
 use crate::{
     LineSpan, Text, WordSpan, first_word, is_name, next_line, next_word, push_decimal, push_number,
     push_signed, push_word, read_number,

@@ -1,3 +1,4 @@
+// Texts that own their bytes.
 ghost use Rattle.std.specs.Prelude.{◌≡◌, IfOk};
 
 use std::alloc::{AllocError, Global};

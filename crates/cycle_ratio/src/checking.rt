@@ -1,3 +1,4 @@
+//! The tests that a proposed cycle and proposed numbers have to pass.
 ghost use Rattle.std.specs.Prelude.{◌≡◌, ◌≤◌, All, true};
 ghost use Rattle.cyc_num.specs.Within.{LiesWithin};
 ghost use Rattle.rule_system.specs.Weights.{HasNoGain};

@@ -1,3 +1,4 @@
+//! The proved search for a cycle of a greater ratio.
 ghost use Rattle.std.specs.Prelude.{◌≡◌, ◌<◌, ◌≤◌, ◌==◌, ℕ, Bool, true, false, IfOk, IfSome, IfNone, length, sum};
 ghost use Rattle.rule_system.specs.Bounds.{IsRule};
 ghost use Rattle.rule_system.specs.Rules.{target_of};

@@ -1,3 +1,4 @@
+//! The period of a system and a cycle that attains it.
 ghost use Rattle.std.specs.Prelude.{◌≡◌, ◌<◌, ◌≤◌, IfOk, replicate, true};
 ghost use Rattle.cyc_num.specs.Ratio.{IsLowest};
 ghost use Rattle.rule_system.specs.Rules.{delay_sum, offset_sum};

@@ -1,3 +1,4 @@
+//! From a cycle to one of the greatest ratio.
 ghost use Rattle.std.specs.Prelude.{◌≡◌, ◌<◌, ◌≤◌, IfOk};
 ghost use Rattle.rule_system.specs.Bounds.{IsSystem};
 ghost use Rattle.rule_system.specs.Rules.{delay_sum, offset_sum};

@@ -1,3 +1,4 @@
+//! The periods of worked and drawn systems, from several starts.
 ghost use Rattle.std.specs.Prelude.{◌≡◌, ◌<◌, ◌≤◌, ℕ, true, IfOk, IfSome, All, length};
 ghost use Rattle.rule_system.specs.Bounds.{IsSystem};
 ghost use Rattle.rule_system.specs.Rules.{rule_at};

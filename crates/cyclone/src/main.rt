@@ -1,4 +1,7 @@
 //! The program: real files, standard output, and the words of the command line.
+//!
+//! It promises nothing of its own: what a run does is the clause of `engine::cyclone`, over every shelf and sink. So nothing
+//! belongs here that can be said over those traits.
 #![tactic(auto)]
 
 use cyc_port::{FileShelf, OpenGate, StdoutSink};

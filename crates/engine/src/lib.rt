@@ -1,8 +1,11 @@
 //! The top call of the program: words and files in, text and status out.
 //!
+//! The promise: one clause on a run, `IsRun`, the same for all commands, words, files and counts.
+//!
 //! What a command does is a course: the files that it opens in turn, what it reads in each, and what it writes in the end
 //! (`specs/Courses`; each command's in `specs/Commands`). What a run may answer and leaves in the sink is defined for all courses
-//! at once (`specs/Runs`), and so are the laws (`laws`).
+//! at once (`specs/Runs`), and so are the laws (`laws`). So a further command is a course and a module in `commands/`: it gets no
+//! clause of its own, and `Runs` stays as it is.
 #![tactic(auto)]
 
 mod commands;

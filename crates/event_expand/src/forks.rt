@@ -1,3 +1,4 @@
+//! The forks of a netlist as forks of its system.
 ghost use Rattle.std.specs.Prelude.{◌≡◌, IfOk, map, take};
 ghost use Rattle.event_expand.specs.Systems.{system_fork, system_forks};
 

@@ -1,3 +1,4 @@
+//! A netlist with cells of each sense, and its rules.
 ghost use Rattle.netlist_model.specs.Sound.{Fits};
 
 use crate::expand;

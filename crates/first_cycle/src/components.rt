@@ -1,3 +1,4 @@
+//! Numbers of strongly connected components, which are proposed and not proved.
 ghost use Rattle.std.specs.Prelude.{◌≡◌, ◌<◌, ◌^◌, All, IfOk, IfSome, length};
 
 use rule_system::System;

@@ -1,3 +1,4 @@
+//! How many kept rules it takes to an event at least.
 ghost use Rattle.std.specs.Prelude.{◌≡◌, ◌<◌, ◌≤◌, ℕ, All, IfOk, true, false, length, sum, ◌+◌, nat_lt};
 ghost use Rattle.first_cycle.specs.Levels.{AreFound, AreLevels, AreReached, AreSettled, level_of, lowered};
 ghost use Rattle.rule_system.specs.Walks.{EndsBelow};

@@ -1,3 +1,4 @@
+//! Numbers of events that no kept rule raises, and whether an event can be on a cycle by them.
 ghost use Rattle.std.specs.Prelude.{◌≡◌, ◌<◌, ℕ, IfOk, Bool, true, false, length};
 ghost use Rattle.rule_system.specs.FirstCycle.{kept_by};
 ghost use Rattle.first_cycle.specs.Numbers.{AreUnraised, StaysOnNumber};

@@ -1,3 +1,4 @@
+//! The first cycle of the kept rules.
 ghost use Rattle.std.specs.Prelude.{◌≡◌, ◌<◌, ◌≤◌, ℕ, IfOk, IsTrue, Bool, true, false, length, sum, ◌+◌, nat_lt, IfSome, IfNone, ◌↔◌, List};
 ghost use Rattle.rule_system.specs.Plain.{IsFirstFrom};
 ghost use Rattle.first_cycle.specs.Levels.{IsFirstLeast, level_through};

@@ -1,3 +1,4 @@
+//! The first of the shortest walks, one rule after the other.
 ghost use Rattle.std.specs.Prelude.{◌≡◌, ◌<◌, ℕ, IfOk, IsTrue, length, IfSome, IfNone, ◌↔◌};
 ghost use Rattle.first_cycle.specs.Levels.{AreLevels, IsLeastWalk, IsNextRule, LeadsNearer, level_of};
 ghost use Rattle.rule_system.specs.Walks.{EndsBelow};

@@ -1,3 +1,4 @@
+//! First cycles of worked systems, and of drawn ones against all walks.
 ghost use Rattle.std.specs.Prelude.{◌≡◌, ◌<◌, ◌≤◌, All, IfOk, length, vec_len};
 ghost use Rattle.rule_system.specs.Bounds.{IsRule};
 

@@ -1,3 +1,4 @@
+//! The slack of a fork.
 ghost use Rattle.std.specs.Prelude.{◌≡◌, ◌*◌, ◌<◌, ◌≤◌, pos, ◌+ℤ◌, All, length};
 ghost use Rattle.cyc_num.specs.Within.{LiesWithin};
 ghost use Rattle.fork_slack.specs.Slack.{arrival_of, slack_of};

@@ -1,3 +1,4 @@
+//! Rows of forks and their slacks.
 ghost use Rattle.std.specs.Prelude.{◌<◌, ◌≤◌};
 
 use crate::{ForkOf, slack};

@@ -1,3 +1,4 @@
+//! Why a system is not connected or not live.
 ghost use Rattle.std.specs.Prelude.{◌≡◌};
 ghost use Rattle.liveness_check.specs.declared.faults.LiveFault.TheVariants.{Memory};
 

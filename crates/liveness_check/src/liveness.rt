@@ -1,3 +1,4 @@
+//! The check of a system, which tells the first fault.
 ghost use Rattle.std.specs.Prelude.{◌≡◌, ◌<◌, ◌==◌, ℕ, IfOk, IfErr, IfSome, IfNone, length, map, replicate, true};
 ghost use Rattle.first_cycle.specs.Levels.{level_of};
 ghost use Rattle.liveness_check.specs.Liveness.{IsFault, IsFirstLost, IsLeastUnreached, IsLeastWithoutReturn};

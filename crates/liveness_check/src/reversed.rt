@@ -1,3 +1,4 @@
+//! The system with each rule turned round.
 ghost use Rattle.std.specs.Prelude.{◌≡◌, IfOk, map};
 ghost use Rattle.liveness_check.specs.Reversed.{reversed_rule};
 

@@ -1,3 +1,4 @@
+//! Rows of systems, and the fault of each.
 ghost use Rattle.std.specs.Prelude.{◌≡◌, ◌≤◌, All, IfOk, length, vec_len};
 ghost use Rattle.rule_system.specs.Bounds.{IsRule};
 

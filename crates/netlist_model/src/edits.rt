@@ -1,3 +1,4 @@
+// Edits: statements that change a netlist, as values.
 ghost use Rattle.std.specs.Prelude.{◌≡◌, ◌≢◌, Ok, Err, IfOk, IfErr, OnErr, OnOk};
 ghost use Rattle.netlist_model.specs.Edits.{made};
 ghost use Rattle.netlist_model.specs.Sound.{Fits};

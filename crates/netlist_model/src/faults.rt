@@ -1,3 +1,4 @@
+// Why a statement, a list of edits or a whole netlist is refused.
 use cyc_text::Limit;
 use std::alloc::{AllocError, AllocFailed};
 

@@ -1,3 +1,4 @@
+// The instances of a netlist, found by name and by the net that they drive.
 ghost use Rattle.std.specs.Prelude.{◌≡◌, ◌++◌, ◌∷◌, [], ◌+◌, ◌<◌, ℕ, false, None, length, map, remove, slice_get, slice_set, Some, OnOk, OnErr, IfOk, IfSome};
 ghost use Rattle.std.specs.List.{IsDistinct, list_any};
 ghost use Rattle.std.specs.Option.{option_map_or};

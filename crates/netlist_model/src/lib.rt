@@ -1,4 +1,11 @@
 //! Netlists as tables with look-ups by name, and the statements that build them.
+//!
+//! The promise: each statement answers the first refusal of its definition, and leaves the netlist as it was, or has the
+//! definition's effect on the whole netlist and no other.
+//!
+//! A netlist as lists is defined in `specs/Circuit`, statements in `Statements` and `Deletions`, edits in `Edits`, what every netlist
+//! is in `Sound`, the rules in `Expansion`, the whole check in `Whole`. The tables are private: what can fail is done before anything
+//! changes, and the hints of `hints.rt` promise nothing and are looked at each time.
 #![tactic(auto)]
 
 mod counting;

@@ -1,3 +1,4 @@
+// Netlists, and the statements that add to them.
 ghost use Rattle.std.specs.Prelude.{◌≡◌, ◌≢◌, ◌<◌, ◌≤◌, ◌*◌, ◌++◌, ◌∷◌, [], None, Some, true, position, Ok, Err, IfOk, IfErr, IfSome, IsSome, List, OnErr, OnOk, length, map, option_map, slice_get};
 ghost use Rattle.std.specs.List.{flat_map};
 ghost use Rattle.cell_arcs.specs.Steps.{or_fault};

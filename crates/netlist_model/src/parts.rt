@@ -1,3 +1,4 @@
+// The parts of a netlist, and those of its statements.
 ghost use Rattle.std.specs.Prelude.{◌≡◌, ◌<◌, length, map, slice_set, IfOk, Some};
 ghost use Rattle.netlist_model.specs.Deletions as deletions;
 

@@ -1,3 +1,4 @@
+// The ticks of a netlist, found by their pairs of events.
 ghost use Rattle.std.specs.Prelude.{◌≡◌, ◌++◌, ◌∷◌, [], ◌<◌, ◌≤◌, false, true, ◌+◌, length, map, not, filter, slice_get, Some, is_some, IfOk, IfSome, OnOk, OnErr};
 ghost use Rattle.std.specs.List.{flat_map, list_any};
 ghost use Rattle.std.specs.Vec.{vec_capacity, vec_len};

@@ -1,3 +1,4 @@
+// Why a line, a netlist file or a file of edits is refused.
 use netlist_model::StatementFault;
 use std::alloc::{AllocError, AllocFailed};
 

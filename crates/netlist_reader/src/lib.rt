@@ -1,4 +1,11 @@
 //! Netlist files and files of edits are read, and netlists written in one way.
+//!
+//! The promise: `read` gives the netlist that a file's lines make, or the first refused line; `read_edits` the edits of a file, or
+//! its first line that is none; the text that `write` gives is read back as the same netlist.
+//!
+//! What a line says is defined once, in `specs/EditLines`, for netlist files, files of edits and scripts; a file in `NetlistFiles` and
+//! `EditFiles`, the written text in `Canonical`. A further form of line is an edit of netlist_model first. The words of a netlist
+//! file are lent to the statements, and not copied.
 #![tactic(auto)]
 
 mod edit_files;

@@ -5,7 +5,7 @@
 //! queries of `Pinned` answer the values of the analysis of the row's netlist.
 //!
 //! What a row is, and when it follows another, is defined in `specs/Rows`; what the queries answer in `specs/Queries`. The analysis of
-//! a netlist is defined in the crate netlist_analysis.
+//! a netlist is defined in the crate netlist_analysis. A row is made by `base` and `next` alone: its parts are never changed.
 #![tactic(auto)]
 
 mod queries;

@@ -1,3 +1,4 @@
+//! Whether numbers of events rise along each rule by at least its weight.
 ghost use Rattle.std.specs.Prelude.{◌≡◌, ◌<◌, ◌≤◌, ◌↔◌, ℕ, ◌+ℤ◌, ◌≤ℤ◌, All, IsTrue, length, List};
 ghost use Rattle.rule_system.specs.Weights.{rule_weight, time_of, IsFeasible};
 ghost use Rattle.rule_system.specs.Bounds.{IsRule};

@@ -1,7 +1,11 @@
 //! Numbers of events that rise along each rule by at least its weight, first numbers for a search, and arrivals.
 //!
-//! Arrivals are the greatest weights over all walks from a root. The folder `search/` proposes walks and promises nothing;
-//! what it proposes is followed and tested by proved code.
+//! The promise: `Plain`, and every maker that keeps the clauses of `ArrivalMaker`, finds the arrivals, the greatest weights over
+//! all walks from a root; `feasible` is true exactly where the numbers rise so; `first_weights` are weights of walks.
+//!
+//! Arrivals and feasible numbers are defined in the crate rule_system (`Weights`), weights of paths in `specs/Times`. The folder
+//! `search/` proposes walks and promises nothing but an end; it is public for the crate cycle_ratio. What it proposes is followed
+//! and tested by proved code: let no proof lean on it.
 #![tactic(auto)]
 
 mod checks;

@@ -1,3 +1,4 @@
+//! Makers of arrivals: the trait, and the one on one thread.
 ghost use Rattle.std.specs.Prelude.{◌≡◌, ◌<◌, ◌≤◌, ℕ, pos, All, IfOk};
 ghost use Rattle.std.specs.Thread.{IsSync};
 ghost use Rattle.rule_system.specs.Walks.{IsConnected};

@@ -1,3 +1,4 @@
+//! Rounds over all rules, which raise weights of walks to the arrivals.
 ghost use Rattle.std.specs.Prelude.{◌≡◌, ◌<◌, ◌≤◌, ℕ, ℤ, pos, ◌+ℤ◌, ◌≤ℤ◌, All, length};
 ghost use Rattle.rule_system.specs.Weights.{time_of, HasNoGain, AreAttained, AreArrivals, IsRound};
 ghost use Rattle.rule_system.specs.Bounds.{IsRule};

@@ -1,3 +1,4 @@
+//! Weights of walks from the root, for a search to begin with.
 ghost use Rattle.std.specs.Prelude.{◌≡◌, ◌<◌, ◌≤◌, ℕ, pos, All, IfOk};
 ghost use Rattle.rule_system.specs.Weights.{time_of, AreAttained};
 ghost use Rattle.cyc_num.specs.Within.{LiesWithin};

@@ -1,3 +1,4 @@
+//! Arrivals of the inverter ring, and first numbers.
 ghost use Rattle.std.specs.Prelude.{◌≡◌, IfOk};
 ghost use Rattle.rule_system.specs.InverterRing.{inverter_ring};
 

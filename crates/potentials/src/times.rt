@@ -1,3 +1,4 @@
+//! Lists of numbers, one for each event or fork.
 ghost use Rattle.std.specs.Prelude.{◌≡◌};
 
 use std::marker::Model;

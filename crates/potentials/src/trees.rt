@@ -1,3 +1,4 @@
+//! Walks from the root to each event, along rules that are proposed.
 ghost use Rattle.std.specs.Prelude.{◌≡◌, ◌<◌, ◌≤◌, ◌↔◌, ℕ, pos, false, All, IsTrue, length, replicate};
 ghost use Rattle.rule_system.specs.Rules.{source_of, target_of};
 ghost use Rattle.rule_system.specs.Bounds.{IsSystem};

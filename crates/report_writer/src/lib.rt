@@ -1,7 +1,10 @@
 //! The texts that the program writes: the rules of a system, the report of an analysis, the result of a ring, the line of a fault, and
 //! the replies of sessions.
 //!
-//! The promise: each text is that of its definition, byte for byte. The definitions stand in `specs/`, a file for each text.
+//! The promise: each text is that of its definition, byte for byte.
+//!
+//! The definitions stand in `specs/`, a file for each text; the pieces that several have in `Pieces`. They are what a user's files of
+//! results look like: a change of a byte there is a change of the format, and belongs in docs/FORMATS.md as well.
 #![tactic(auto)]
 
 mod benches;

@@ -1,3 +1,4 @@
+//! Rows of replies and refusals with their texts, and the texts of sessions.
 use crate::replies::push_reply;
 use crate::{Refusal, Replies, Reply, serve_text};
 use cyc_num::Ratio;

@@ -1,3 +1,4 @@
+//! Rows of faults and their lines.
 use crate::{FaultLine, Names, fault_text};
 use cell_arcs::LibraryFault;
 use cyc_text::{Limit, Text};

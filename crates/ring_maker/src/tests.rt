@@ -1,3 +1,4 @@
+//! The ring of three stages, the sizes of larger ones, and the library.
 use crate::{RingCells, muller_ring};
 use std::test::Fail;
 

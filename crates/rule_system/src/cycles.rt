@@ -1,3 +1,4 @@
+//! Cycles as lists of rule numbers.
 ghost use Rattle.std.specs.Prelude.{◌≡◌};
 
 use std::marker::Model;

@@ -1,3 +1,4 @@
+//! Rule numbers by event, all in one list.
 ghost use Rattle.std.specs.Prelude.{◌≡◌, ℕ, ◌+◌, ◌<◌, ◌≤◌, ◌++◌, All, IfOk, List, OnOk, Option, None, Some, get_or, length, replicate, slice_range, slice_set};
 ghost use Rattle.rule_system.specs.Rows.{AreChains, AreParts, IsChain, places_from};
 

@@ -1,3 +1,5 @@
+//! Rules between events.
+
 /// A rule between two events: the target follows the source by the delay, offset repetitions later.
 #[derive(Clone, Copy, Debug, PartialEq, Eq)]
 pub struct Rule {

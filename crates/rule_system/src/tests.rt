@@ -1,3 +1,4 @@
+//! The inverter ring, its lists of rules, and the plain programs on it.
 use crate::inverter_ring::ring_has_its_period;
 use crate::{Cycle, Rule, System, plain};
 use std::test::Fail;

@@ -8,7 +8,7 @@
 //!
 //! The definitions stand in `specs/`: orders in `Orders`, machines in `Machine`, one session alone in `Alone`, their laws in `Laws`,
 //! none of which says what a call does; then the netlists of versions in `Versions`, each call in `Table`, and the machine of
-//! sessions in `Sessions`. What is read of the analysis of a netlist is a parameter, `Readings`. No row, thread or turn is spoken of.
+//! sessions in `Sessions`. What is read of the analysis of a netlist is a parameter, `Readings`. Speak here of no row, thread or turn.
 #![tactic(auto)]
 
 mod laws;

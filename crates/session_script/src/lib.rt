@@ -1,7 +1,10 @@
 //! Scripts of sessions: the calls of a session, one a line.
 //!
-//! The one promise: `read` answers the calls that the lines say, or the first line at fault. The definitions stand in `specs/`: what a
-//! line says in `ScriptLines`, a whole script in `Scripts`. What an edit line says is `netlist_reader`'s; no line is read here that it reads.
+//! The promise: `read` answers the calls that the lines say, or the first line at fault.
+//!
+//! The definitions stand in `specs/`: which calls are shared in `Calls`, what a line says in `ScriptLines`, a whole script in `Scripts`;
+//! the laws say of `Scripts` exactly when it accepts and exactly when it refuses. What an edit line says is the crate
+//! netlist_reader's: read no line here that it reads.
 #![tactic(auto)]
 
 mod calls;

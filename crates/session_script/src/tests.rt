@@ -1,3 +1,4 @@
+//! Rows of scripts, and what each is read as.
 use crate::{Call, Script, ScriptFault, read};
 use netlist_model::Edit;
 use std::alloc::Global;

@@ -7,7 +7,8 @@
 //! In a turn it has room for a call, keeps its origin, and has the rows of all turns before it at their numbers.
 //!
 //! What contracts see is `src/state.rt` with the words of `specs/Halls.antt`; the answers' words are in `specs/Answers.antt`. The hall
-//! keeps its rows and its entries beside each other: that they give the items is the type's invariant, `IsKept`.
+//! keeps its rows and its entries beside each other: that they give the items is the type's invariant, `IsKept`. Room for all of them
+//! is taken when a hall is opened, and is to stay so: then `publish` and `pass` take no memory.
 #![tactic(auto)]
 
 #[cfg(test)]
