@@ -28,8 +28,8 @@ pub slack_right : (top bottom events : ℕ) (rs : List Rule) (root : ℕ) (arriv
 slack_right top bottom events rs root arrivals fork h f e = record {
   slow = time_of arrivals fork.slow;
   fast = time_of arrivals fork.fast;
-  slow_arrives = subst (λ (r : ℕ). IsArrival top bottom rs r fork.slow (time_of arrivals fork.slow)) (sym e) (h.1 fork.slow f.2);
-  fast_arrives = subst (λ (r : ℕ). IsArrival top bottom rs r fork.fast (time_of arrivals fork.fast)) (sym e) (h.1 fork.fast f.1);
+  slow_arrives = subst (λ (r : ℕ). IsArrival top bottom rs r fork.slow (time_of arrivals fork.slow)) (sym e) (h.1 fork.slow f.1.1);
+  fast_arrives = subst (λ (r : ℕ). IsArrival top bottom rs r fork.fast (time_of arrivals fork.fast)) (sym e) (h.1 fork.fast f.1.0);
   is_slack = refl;
 }
 

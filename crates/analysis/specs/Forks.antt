@@ -1,13 +1,13 @@
 -- Forks of a system, and their slacks.
-use Rattle.std.specs.Prelude.{◌≡◌, ℕ, ◌*◌, ◌<◌, ◌≤◌, ◌==◌, ℤ, pos, ◌+ℤ◌, ◌-ℤ◌, List, length, slice_index_or, if◌then◌else◌}
+use Rattle.std.specs.Prelude.{◌≡◌, ℕ, ◌*◌, ◌<◌, ◌==◌, ℤ, pos, ◌+ℤ◌, ◌-ℤ◌, List, length, slice_index_or, if◌then◌else◌}
 use Rattle.rule_system.specs.declared.rules.Rule.{Rule}
 use Rattle.rule_system.specs.Weights.{IsArrival, time_of}
 use Rattle.fork_slack.specs.declared.slacks.ForkOf.{ForkOf}
-use Rattle.fork_slack.specs.Slack.{slack_of}
+use Rattle.fork_slack.specs.Slack.{HasBranches, slack_of}
 
 -- a fork of three of so many events, its margin and its offset within the limits
 abbrev pub IsFork : ℕ → ForkOf → Type 0
-IsFork events fork = (fork.root < events) × (fork.fast < events) × (fork.slow < events) × (fork.margin ≤ 1000000) × (fork.offset ≤ 15)
+IsFork events fork = (fork.root < events) × HasBranches events fork
 
 -- what stands for the fork of a number that is out of range
 abbrev pub no_fork : ForkOf

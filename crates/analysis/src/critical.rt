@@ -1,6 +1,7 @@
 //! The critical cycle: the first cycle of the tight rules.
 ghost use Rattle.std.specs.Prelude.{◌≡◌, ◌<◌, ◌≤◌, ◌+ℤ◌, ℕ, All, IfOk, length};
 ghost use Rattle.std.specs.Ordering.{int_eq};
+ghost use Rattle.cyc_num.specs.Ratio.{IsSmallRatio};
 ghost use Rattle.cyc_num.specs.Within.{LiesWithin};
 ghost use Rattle.rule_system.specs.FirstCycle.{kept_by};
 ghost use Rattle.rule_system.specs.Bounds.{IsRule};
@@ -24,8 +25,7 @@ pub fn critical_cycle(
     period: Ratio,
     arrivals: &[i64],
 ) -> Result<Cycle, AllocError>
-    requires top { period.top ≤ 32768000000 }
-    requires bottom { period.bottom ≤ 491520 }
+    requires ratio { IsSmallRatio period.top period.bottom }
     requires period { IsPeriod system.now.rules period.top period.bottom }
     requires arrivals { AreArrivals period.top period.bottom system.now.events system.now.rules root arrivals.now }
     requires within { All (LiesWithin 17000000000000000) arrivals.now }
@@ -46,8 +46,7 @@ fn tight_flags(
     period: Ratio,
     arrivals: &[i64],
 ) -> Result<Vec<bool>, AllocError>
-    requires top { period.top ≤ 32768000000 }
-    requires bottom { period.bottom ≤ 491520 }
+    requires ratio { IsSmallRatio period.top period.bottom }
     requires count { length arrivals.now ≡ system.now.events }
     requires within { All (LiesWithin 17000000000000000) arrivals.now }
     ensures count { IfOk result (λ tight. length tight.items ≡ length system.now.rules) }
@@ -67,8 +66,7 @@ fn tight_flags(
 
 /// Whether the rule's source, later by the rule's weight, is at its target's arrival.
 fn is_tight_rule(rule: Rule, top: u64, bottom: u64, arrivals: &[i64]) -> bool
-    requires top { top ≤ 32768000000 }
-    requires bottom { bottom ≤ 491520 }
+    requires ratio { IsSmallRatio top bottom }
     requires rule { IsRule (length arrivals.now) rule }
     requires within { All (LiesWithin 17000000000000000) arrivals.now }
     ensures { result ≡ int_eq (time_of arrivals.now rule.source +ℤ rule_weight top bottom rule) (time_of arrivals.now rule.target) }

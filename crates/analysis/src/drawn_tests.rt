@@ -1,5 +1,6 @@
 //! Analyses of small drawn systems against plain slow programs.
 ghost use Rattle.std.specs.Prelude.{◌≡◌, ◌<◌, ◌≤◌, All, IfOk, length};
+ghost use Rattle.cyc_num.specs.Ratio.{IsSmallRatio};
 ghost use Rattle.rule_system.specs.Bounds.{IsRule};
 ghost use Rattle.rule_system.specs.Weights.{HasNoGain};
 ghost use Rattle.analysis.specs.Analysis.{IsAnalysis};
@@ -11,7 +12,7 @@ use liveness_check::check;
 use potentials::Plain;
 use rule_system::laws::periods_are_bounded;
 use rule_system::plain::{arrivals, first_cycle};
-use rule_system::{Rule, System};
+use rule_system::{MOST_RULES, Rule, System};
 use std::alloc::{AllocError, Global};
 use std::test::Fail;
 
@@ -125,8 +126,7 @@ fn plain_slack(
     top: u64,
     bottom: u64,
 ) -> Result<Option<i128>, AllocError>
-    requires top { top ≤ 32768000000 }
-    requires bottom { bottom ≤ 491520 }
+    requires ratio { IsSmallRatio top bottom }
     requires root { fork.root < system.now.events }
     requires no_gain { HasNoGain top bottom system.now.rules }
 {
@@ -184,7 +184,7 @@ fn agrees_with_plain_programs(rt: HostRuntime) -> Result<(), Fail> {
         let root = numbers.below(events);
         let rules = drawn_rules(alloc, &mut numbers, events)?;
         let forks = drawn_forks(alloc, &mut numbers, events)?;
-        assert!(rt; rules.len() <= 131_072);
+        assert!(rt; rules.len() <= MOST_RULES);
         let system = System::build(alloc, events, &rules)?;
         if let Ok(analysis) = analyse(&rt, alloc, &system, root, &forks, &Plain) {
             assert!(rt;

@@ -1,5 +1,6 @@
 //! The slacks of forks, root by root, each over the arrivals from the fork's own root.
 ghost use Rattle.std.specs.Prelude.{◌≡◌, ◌<◌, ◌≤◌, ℕ, All, IfOk, length, true, false};
+ghost use Rattle.cyc_num.specs.Ratio.{IsSmallRatio};
 ghost use Rattle.cyc_num.specs.Within.{LiesWithin};
 ghost use Rattle.rule_system.specs.Walks.{IsConnected};
 ghost use Rattle.rule_system.specs.Weights.{AreArrivals, HasNoGain, time_of};
@@ -26,8 +27,7 @@ pub fn slacks_of<R: Threads + Sync, M: ArrivalMaker>(
     forks: &[ForkOf],
     maker: &M,
 ) -> Result<Times, AllocError>
-    requires top { period.top ≤ 32768000000 }
-    requires bottom { period.bottom ≤ 491520 }
+    requires ratio { IsSmallRatio period.top period.bottom }
     requires connected { IsConnected system.now.events system.now.rules root }
     requires no_gain { HasNoGain period.top period.bottom system.now.rules }
     requires arrivals { AreArrivals period.top period.bottom system.now.events system.now.rules root arrivals.now }
@@ -65,8 +65,7 @@ fn is_first_of_root(forks: &[ForkOf], number: usize) -> bool
 
 /// Writes the slacks of the forks of a root.
 fn fill(forks: &[ForkOf], root: u32, period: Ratio, arrivals: &[i64], slacks: &mut [i64])
-    requires top { period.top ≤ 32768000000 }
-    requires bottom { period.bottom ≤ 491520 }
+    requires ratio { IsSmallRatio period.top period.bottom }
     requires forks { All (IsFork (length arrivals.now)) forks.now }
     requires within { All (LiesWithin 17000000000000000) arrivals.now }
     requires count { length slacks.old ≡ length forks.now }

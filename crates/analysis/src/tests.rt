@@ -8,7 +8,7 @@ use cyc_num::Ratio;
 use fork_slack::ForkOf;
 use potentials::search::Reduced;
 use potentials::{ArrivalMaker, Plain, Times};
-use rule_system::{Rule, System};
+use rule_system::{MOST_DELAY, MOST_EVENTS, MOST_OFFSET, MOST_RULES, Rule, System};
 use std::alloc::{AllocError, Global};
 use std::cell::Cell;
 use std::process::Abort;
@@ -45,7 +45,7 @@ fn rule_of(rt: &impl Abort, events: u32, words: &str) -> Result<Rule, Fail>
     let delay = number(words.next())?;
     let offset = number(words.next())?;
     assert!(rt; source < events && target < events);
-    assert!(rt; delay <= 1_000_000 && offset <= 15);
+    assert!(rt; delay <= MOST_DELAY && offset <= MOST_OFFSET);
     Ok(Rule {
         source,
         target,
@@ -121,9 +121,9 @@ fn answer<R: Threads + Sync + Abort, M: ArrivalMaker>(
 ) -> Result<String, Fail> {
     let mut parts = system.split(';');
     let events = number(parts.next())?;
-    assert!(rt; events >= 2 && events <= 32_768);
+    assert!(rt; events >= 2 && events <= MOST_EVENTS);
     let rules = rules_of(rt, alloc, events, parts.next().ok_or("no rules")?)?;
-    assert!(rt; rules.len() <= 131_072);
+    assert!(rt; rules.len() <= MOST_RULES);
     let root = number(Some(parts.next().ok_or("no root")?.trim_ascii()))?;
     assert!(rt; root < events);
     let forks = forks_of(rt, alloc, events, parts.next().ok_or("no forks")?)?;

@@ -1,6 +1,6 @@
 -- What shared words are about: a system, a root and a period.
-use Rattle.std.specs.Prelude.{◌≡◌, ℕ, ◌<◌, ◌≤◌, ℤ, List}
-use Rattle.cyc_num.specs.Ratio.{Fraction}
+use Rattle.std.specs.Prelude.{◌≡◌, ℕ, ◌<◌, ℤ, List}
+use Rattle.cyc_num.specs.Ratio.{Fraction, IsSmallRatio}
 use Rattle.cyc_num.specs.Within.{LiesWithin}
 use Rattle.rule_system.specs.declared.rules.Rule.{Rule}
 use Rattle.rule_system.specs.Bounds.{EventRules, IsSystem}
@@ -33,15 +33,11 @@ system_of a = record { events = a.events; rules = a.rules }
 abbrev pub time_limit : ℕ
 time_limit = 17000000000000000
 
--- the greatest top and bottom of a period
-abbrev pub IsPeriodWithin : ℕ → ℕ → Type 0
-IsPeriodWithin top bottom = (top ≤ 32768000000) × (bottom ≤ 491520)
-
 -- a system, a root among its events, a period within the limits, and no cycle of positive weight
 pub record IsSound (a : About) : Type 0 where
   pub system : IsSystem a.events a.rules
   pub root : a.root < a.events
-  pub period : IsPeriodWithin a.top a.bottom
+  pub period : IsSmallRatio a.top a.bottom
   pub no_gain : HasNoGain a.top a.bottom a.rules
 
 -- the number is the weight of a walk from the root to the event

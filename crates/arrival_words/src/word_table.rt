@@ -1,10 +1,11 @@
 // The table of the words, and the calls on it.
 ghost use Rattle.std.specs.Prelude.{◌≡◌, ℕ, suc, ◌+◌, ◌<◌, ◌≤◌, ℤ, pos, ◌+ℤ◌, ◌-ℤ◌, ◌≤ℤ◌, max, length, All, IfOk, slice_index, slice_set};
+ghost use Rattle.cyc_num.specs.Ratio.{IsSmallRatio};
 ghost use Rattle.cyc_num.specs.Within.{LiesWithin};
 ghost use Rattle.rule_system.specs.Bounds.{IsRule};
 ghost use Rattle.rule_system.specs.Rules.{rule_at};
 ghost use Rattle.rule_system.specs.Weights.{rule_weight, time_of, AreAttained, HasNoGain};
-ghost use Rattle.arrival_words.specs.About.{IsReached, IsPeriodWithin, about, time_limit};
+ghost use Rattle.arrival_words.specs.About.{IsReached, about, time_limit};
 ghost use Rattle.arrival_words.specs.Rule.{about_key};
 ghost use Rattle.arrival_words.specs.Views.{value_of, values_of};
 
@@ -29,7 +30,7 @@ pub struct WordTable<'s> {
     table: Table<(), View, Key, Relaxation, Global>,
     pub ghost tied: { about_key table.shared.key ≡ about system.now root period },
     pub ghost wide: { table.shared.table_id.words ≡ suc system.now.events },
-    pub ghost small: { IsPeriodWithin period.top period.bottom },
+    pub ghost small: { IsSmallRatio period.top period.bottom },
     pub ghost rooted: { root < system.now.events },
     pub ghost no_gain: { HasNoGain period.top period.bottom system.now.rules },
 }
@@ -47,7 +48,7 @@ impl<'s> WordTable<'s> {
         period: Ratio,
         start: &[i64],
     ) -> Result<(WordTable<'s>, Token), AllocError>
-        requires period { IsPeriodWithin period.top period.bottom }
+        requires period { IsSmallRatio period.top period.bottom }
         requires no_gain { HasNoGain period.top period.bottom system.now.rules }
         requires root { root < system.now.events }
         requires start { AreAttained period.top period.bottom system.now.events system.now.rules root start.now }
@@ -81,7 +82,7 @@ impl<'s> WordTable<'s> {
 
     pub fn sound(&self)
         ensures root { (about_words self.now).root < self.now.system.now.events }
-        ensures period { IsPeriodWithin (about_words self.now).top (about_words self.now).bottom }
+        ensures period { IsSmallRatio (about_words self.now).top (about_words self.now).bottom }
         ensures no_gain { HasNoGain (about_words self.now).top (about_words self.now).bottom self.now.system.now.rules }
     {
         let _ = &self.root;
@@ -97,7 +98,7 @@ impl<'s> WordTable<'s> {
     pub fn period(&self) -> Ratio
         ensures top { result.top ≡ (about_words self.now).top }
         ensures bottom { result.bottom ≡ (about_words self.now).bottom }
-        ensures within { IsPeriodWithin result.top result.bottom }
+        ensures within { IsSmallRatio result.top result.bottom }
         ensures no_gain { HasNoGain result.top result.bottom self.now.system.now.rules }
     {
         self.period

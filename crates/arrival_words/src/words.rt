@@ -1,8 +1,9 @@
 // The words, and the calls of threads on them.
 ghost use Rattle.std.specs.Prelude.{◌≡◌, ℕ, ◌<◌, ◌≤◌, ℤ, pos, ◌≤ℤ◌, length, All, IfOk, slice_set};
+ghost use Rattle.cyc_num.specs.Ratio.{IsSmallRatio};
 ghost use Rattle.cyc_num.specs.Within.{LiesWithin};
 ghost use Rattle.rule_system.specs.Weights.{time_of, AreAttained, HasNoGain};
-ghost use Rattle.arrival_words.specs.About.{IsPeriodWithin, IsWeightOfWalk, about, system_of, time_limit};
+ghost use Rattle.arrival_words.specs.About.{IsWeightOfWalk, about, system_of, time_limit};
 ghost use Rattle.arrival_words.specs.Views.{maxima};
 ghost use Rattle.arrival_words.specs.Known.{Belongs, Relaxes, NothingSinks};
 
@@ -59,7 +60,7 @@ impl<'s> Words<'s> {
         period: Ratio,
         start: &[i64],
     ) -> Result<(Words<'s>, RelaxSeat), AllocError>
-        requires period { IsPeriodWithin period.top period.bottom }
+        requires period { IsSmallRatio period.top period.bottom }
         requires no_gain { HasNoGain period.top period.bottom system.now.rules }
         requires root { root < system.now.events }
         requires start { AreAttained period.top period.bottom system.now.events system.now.rules root start.now }
@@ -91,7 +92,7 @@ impl<'s> Words<'s> {
     pub fn period(&self) -> Ratio
         ensures top { result.top ≡ self.now.about.top }
         ensures bottom { result.bottom ≡ self.now.about.bottom }
-        ensures within { IsPeriodWithin result.top result.bottom }
+        ensures within { IsSmallRatio result.top result.bottom }
         ensures no_gain { HasNoGain result.top result.bottom self.now.about.rules }
     {
         self.words.period()
@@ -100,7 +101,7 @@ impl<'s> Words<'s> {
     /// Makes known what holds of the root and the period of all words. It does nothing.
     pub fn sound(&self)
         ensures root { self.now.about.root < self.now.about.events }
-        ensures period { IsPeriodWithin self.now.about.top self.now.about.bottom }
+        ensures period { IsSmallRatio self.now.about.top self.now.about.bottom }
         ensures no_gain { HasNoGain self.now.about.top self.now.about.bottom self.now.about.rules }
     {
         self.words.sound();

@@ -227,7 +227,7 @@ part_raise top bottom events rs count before now parents rose b sys k test h = r
 
     bound : AreAtMost (20000000000000000 + (count + 1) * 491520000000) (slice_set now (target_of rs count) (next_number top bottom rs now count))
     bound event =
-        let s : number_of (slice_set now (target_of rs count) (next_number top bottom rs now count)) event ≤ (20000000000000000 + count * 491520000000) + 491520000000 = next_small top bottom (20000000000000000 + count * 491520000000) rs now count b (sys.2 count no_rule k).2 here h.small event in
+        let s : number_of (slice_set now (target_of rs count) (next_number top bottom rs now count)) event ≤ (20000000000000000 + count * 491520000000) + 491520000000 = next_small top bottom (20000000000000000 + count * 491520000000) rs now count b (sys.2 count no_rule k).2.0 here h.small event in
         omega arith
 
     step : sum now < sum (slice_set now (target_of rs count) (next_number top bottom rs now count))

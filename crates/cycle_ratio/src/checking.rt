@@ -1,5 +1,6 @@
 //! The tests that a proposed cycle and proposed numbers have to pass.
 ghost use Rattle.std.specs.Prelude.{◌≡◌, ◌≤◌, All, true};
+ghost use Rattle.cyc_num.specs.Ratio.{IsSmallRatio};
 ghost use Rattle.cyc_num.specs.Within.{LiesWithin};
 ghost use Rattle.rule_system.specs.Weights.{HasNoGain};
 ghost use Rattle.cycle_ratio.specs.Cycles.{IsShortCycle};
@@ -22,8 +23,7 @@ pub fn is_short_cycle(system: &System, walk: &[u32]) -> bool
 
 /// Whether numbers, one for each event, show that no cycle has a greater ratio than the period.
 pub fn shows_no_gain(system: &System, period: Ratio, numbers: &[i64]) -> bool
-    requires top { period.top ≤ 32768000000 }
-    requires bottom { period.bottom ≤ 491520 }
+    requires ratio { IsSmallRatio period.top period.bottom }
     ensures { result ≡ true → HasNoGain period.top period.bottom system.now.rules }
 {
     feasible_numbers_bound_cycles();

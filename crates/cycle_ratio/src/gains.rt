@@ -1,6 +1,7 @@
 //! The proved search for a cycle of a greater ratio.
 ghost use Rattle.std.specs.Prelude.{◌≡◌, ◌<◌, ◌≤◌, ◌==◌, ℕ, Bool, true, false, IfOk, IfSome, IfNone, length, sum};
-ghost use Rattle.rule_system.specs.Bounds.{IsRule};
+ghost use Rattle.cyc_num.specs.Ratio.{IsSmallRatio, most_bottom};
+ghost use Rattle.rule_system.specs.Bounds.{IsRule, most_rules};
 ghost use Rattle.rule_system.specs.Rules.{target_of};
 ghost use Rattle.rule_system.specs.Weights.{HasNoGain, Gains};
 ghost use Rattle.rule_system.specs.FirstCycle.{kept_by};
@@ -25,8 +26,7 @@ pub fn gain(
     top: u64,
     bottom: u64,
 ) -> Result<Option<Cycle>, AllocError>
-    requires top { top ≤ 32768000000 }
-    requires bottom { bottom ≤ 491520 }
+    requires ratio { IsSmallRatio top bottom }
     ensures cycle { IfOk result (λ found. IfSome found (λ cycle. IsShortCycle system.now.events system.now.rules cycle)) }
     ensures gains { IfOk result (λ found. IfSome found (λ cycle. Gains top bottom system.now.rules cycle)) }
     ensures none { IfOk result (λ found. IfNone found (HasNoGain top bottom system.now.rules)) }
@@ -46,8 +46,7 @@ fn climb(
     numbers: &mut [u64],
     parents: &mut [Option<u32>],
 ) -> Result<Option<Cycle>, AllocError>
-    requires top { top ≤ 32768000000 }
-    requires bottom { bottom ≤ 491520 }
+    requires ratio { IsSmallRatio top bottom }
     requires tree { IsTree top bottom system.now.events system.now.rules numbers.old parents.old }
     requires small { AreAtMost 20000000000000000 numbers.old }
     ensures cycle { IfOk result (λ found. IfSome found (λ cycle. IsShortCycle system.now.events system.now.rules cycle)) }
@@ -75,7 +74,7 @@ fn look(
     numbers: &[u64],
     parents: &[Option<u32>],
 ) -> Result<Option<Cycle>, AllocError>
-    requires bottom { bottom ≤ 491520 }
+    requires bottom { bottom ≤ most_bottom }
     requires tree { IsTree top bottom system.now.events system.now.rules numbers.now parents.now }
     ensures cycle { IfOk result (λ found. IfSome found (λ cycle. IsShortCycle system.now.events system.now.rules cycle)) }
     ensures gains { IfOk result (λ found. IfSome found (λ cycle. Gains top bottom system.now.rules cycle)) }
@@ -109,7 +108,7 @@ fn chosen_rules(
     rules: &[Rule],
     parents: &[Option<u32>],
 ) -> Result<Vec<bool>, AllocError>
-    requires count { length rules.now ≤ 131072 }
+    requires count { length rules.now ≤ most_rules }
     requires targets { (n : ℕ) → n < length rules.now → target_of rules.now n < length parents.now }
     ensures count { IfOk result (λ chosen. length chosen.items ≡ length rules.now) }
     ensures chosen { IfOk result (λ chosen. (n : ℕ) → n < length rules.now → kept_by chosen.items n ≡ is_chosen rules.now parents.now n) }
@@ -139,8 +138,7 @@ fn round(
     numbers: &mut [u64],
     parents: &mut [Option<u32>],
 ) -> bool
-    requires top { top ≤ 32768000000 }
-    requires bottom { bottom ≤ 491520 }
+    requires ratio { IsSmallRatio top bottom }
     requires tree { IsTree top bottom system.now.events system.now.rules numbers.old parents.old }
     requires small { AreAtMost 20000000000000000 numbers.old }
     ensures tree { IsTree top bottom system.now.events system.now.rules numbers.new parents.new }
@@ -165,8 +163,7 @@ fn raise(
     numbers: &mut [u64],
     parents: &mut [Option<u32>],
 ) -> bool
-    requires top { top ≤ 32768000000 }
-    requires bottom { bottom ≤ 491520 }
+    requires ratio { IsSmallRatio top bottom }
     requires rule { IsRule (length numbers.old) rule }
     requires parents { length parents.old ≡ length numbers.old }
     requires small { AreAtMost 90000000000000000 numbers.old }

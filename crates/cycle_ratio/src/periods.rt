@@ -1,6 +1,6 @@
 //! The period of a system and a cycle that attains it.
 ghost use Rattle.std.specs.Prelude.{◌≡◌, ◌<◌, ◌≤◌, IfOk, replicate, true};
-ghost use Rattle.cyc_num.specs.Ratio.{IsLowest};
+ghost use Rattle.cyc_num.specs.Ratio.{IsLowest, IsSmallRatio};
 ghost use Rattle.rule_system.specs.Rules.{delay_sum, offset_sum};
 ghost use Rattle.rule_system.specs.Walks.{IsCycle, IsLive};
 ghost use Rattle.rule_system.specs.Weights.{Attains, HasNoGain, IsPeriod};
@@ -33,8 +33,7 @@ pub fn greatest(alloc: Global, system: &System) -> Result<Found, AllocError>
     ensures period { IfOk result (λ found. IsPeriod system.now.rules found.period.top found.period.bottom) }
     ensures cycle { IfOk result (λ found. IsCycle system.now.rules found.cycle) }
     ensures attains { IfOk result (λ found. Attains found.period.top found.period.bottom system.now.rules found.cycle) }
-    ensures top { IfOk result (λ found. found.period.top ≤ 32768000000) }
-    ensures bottom { IfOk result (λ found. found.period.bottom ≤ 491520) }
+    ensures small { IfOk result (λ found. IsSmallRatio found.period.top found.period.bottom) }
 {
     greatest_from(alloc, system, &[])
 }
@@ -53,8 +52,7 @@ pub fn greatest_from(alloc: Global, system: &System, start: &[u32]) -> Result<Fo
     ensures period { IfOk result (λ found. IsPeriod system.now.rules found.period.top found.period.bottom) }
     ensures cycle { IfOk result (λ found. IsCycle system.now.rules found.cycle) }
     ensures attains { IfOk result (λ found. Attains found.period.top found.period.bottom system.now.rules found.cycle) }
-    ensures top { IfOk result (λ found. found.period.top ≤ 32768000000) }
-    ensures bottom { IfOk result (λ found. found.period.bottom ≤ 491520) }
+    ensures small { IfOk result (λ found. IsSmallRatio found.period.top found.period.bottom) }
 {
     let ratio = ratio_of(system, start);
     let Proposal {
@@ -97,8 +95,7 @@ fn raised_from(alloc: Global, system: &System, first: Cycle) -> Result<Found, Al
     ensures period { IfOk result (λ found. IsPeriod system.now.rules found.period.top found.period.bottom) }
     ensures cycle { IfOk result (λ found. IsCycle system.now.rules found.cycle) }
     ensures attains { IfOk result (λ found. Attains found.period.top found.period.bottom system.now.rules found.cycle) }
-    ensures top { IfOk result (λ found. found.period.top ≤ 32768000000) }
-    ensures bottom { IfOk result (λ found. found.period.bottom ≤ 491520) }
+    ensures small { IfOk result (λ found. IsSmallRatio found.period.top found.period.bottom) }
 {
     let cycle = raise_cycle(alloc, system, first)?;
     let period = period_of(system, cycle.list());
@@ -138,8 +135,7 @@ fn period_of(system: &System, cycle: &[u32]) -> Ratio
     ensures attains { Attains result.top result.bottom system.now.rules cycle.now }
     ensures greatest { HasNoGain (delay_sum system.now.rules cycle.now) (offset_sum system.now.rules cycle.now) system.now.rules → HasNoGain result.top result.bottom system.now.rules }
     ensures period { HasNoGain result.top result.bottom system.now.rules → IsPeriod system.now.rules result.top result.bottom }
-    ensures top { result.top ≤ 32768000000 }
-    ensures bottom { result.bottom ≤ 491520 }
+    ensures small { IsSmallRatio result.top result.bottom }
 {
     let sums = sums_of(system, cycle);
     Ratio::of(sums.delay, sums.offset)

@@ -1,5 +1,6 @@
 //! From a cycle to one of the greatest ratio.
 ghost use Rattle.std.specs.Prelude.{◌≡◌, ◌<◌, ◌≤◌, IfOk};
+ghost use Rattle.cyc_num.specs.Ratio.{IsSmallRatio};
 ghost use Rattle.rule_system.specs.Bounds.{IsSystem};
 ghost use Rattle.rule_system.specs.Rules.{delay_sum, offset_sum};
 ghost use Rattle.rule_system.specs.Walks.{IsLive};
@@ -41,8 +42,7 @@ pub fn sums_of(system: &System, cycle: &[u32]) -> Sums
     ensures delay { result.delay ≡ delay_sum system.now.rules cycle.now }
     ensures offset { result.offset ≡ offset_sum system.now.rules cycle.now }
     ensures system { IsSystem system.now.events system.now.rules }
-    ensures small_delay { result.delay ≤ 32768000000 }
-    ensures small_offset { result.offset ≤ 491520 }
+    ensures small { IsSmallRatio result.delay result.offset }
 {
     let rules = system.rules();
     let delay = delay_of(rules, cycle);

@@ -9,7 +9,7 @@ ghost use Rattle.cycle_ratio.specs.Cycles.{HasCycle};
 use crate::checking::is_short_cycle;
 use crate::{greatest, greatest_from};
 use first_cycle::first_cycle;
-use rule_system::{Rule, System, plain};
+use rule_system::{MOST_DELAY, MOST_EVENTS, MOST_OFFSET, MOST_RULES, Rule, System, plain};
 use std::alloc::{AllocError, Global};
 use std::test::Fail;
 
@@ -20,12 +20,12 @@ type Row = (u32, u32, u32, u32);
 fn rules_of(alloc: Global, events: u32, rows: &[Row]) -> Result<Option<Vec<Rule>>, AllocError>
     ensures { IfOk result (λ found. IfSome found (λ rules. IsSystem events rules.items)) }
 {
-    if events > 32_768 || rows.len() > 131_072 {
+    if events > MOST_EVENTS || rows.len() > MOST_RULES {
         return Ok(None);
     }
     let mut rules = Vec::new(alloc);
     'rows: for (source, target, delay, offset) in rows {
-        if *source >= events || *target >= events || *delay > 1_000_000 || *offset > 15 {
+        if *source >= events || *target >= events || *delay > MOST_DELAY || *offset > MOST_OFFSET {
             return Ok(None);
         }
         rules.push(Rule {

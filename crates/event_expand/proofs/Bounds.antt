@@ -1,6 +1,5 @@
 -- The rules of a netlist are within the limits of a system.
-use Rattle.std.proofs.Common.{◌≡◌, ◌<◌, ◌≤◌, ◌*◌, ◌+◌, ◌++◌, ◌∷◌, [], ℕ, Bool, true, false, List, Option, Some, None, length, map, slice_get, refl, sym, ap, subst, ◌∙◌, arith, All}
-use Rattle.std.specs.Prelude.{find, option_map, unwrap_or}
+use Rattle.std.proofs.Common.{◌≡◌, ◌<◌, ◌≤◌, ◌*◌, ◌+◌, ◌∷◌, [], ℕ, Bool, true, false, List, Option, Some, None, length, slice_get, refl, sym, ap, ◌∙◌, arith, All}
 use Rattle.std.specs.List.{flat_map}
 use Rattle.std.specs.Option.{option_map_or}
 use Rattle.std.proofs.lemmas.List.{length-map}
@@ -11,7 +10,7 @@ use Rattle.cell_arcs.specs.declared.cells.CellArc.{CellArc}
 use Rattle.cell_arcs.specs.declared.cells.Sense.{Sense}
 use Rattle.cell_arcs.specs.declared.cells.Sense.TheVariants.{Pos, Neg, Non}
 use Rattle.cell_arcs.specs.IsLibrary.{IsArc, IsCell, IsLibrary}
-use Rattle.netlist_model.specs.Circuit.{Circuit, event_at, last_of, tick_of, is_between}
+use Rattle.netlist_model.specs.Circuit.{Circuit, event_at, last_of, is_between}
 use Rattle.netlist_model.specs.Expansion as netlist
 use Rattle.netlist_model.specs.Sound.{IsInstance, IsNetlist, IsOwnDelay, IsPin, IsTick}
 use Rattle.netlist_model.specs.declared.parts.Delay.{Delay}
@@ -48,7 +47,7 @@ module _ (nets consts : ℕ) (ticks : List Tick) (counted : All (IsTick nets) ti
   IsWithin r = IsRule (2 * nets) (system_rule r)
 
   rule_within : (a z delay : ℕ) (up down : Bool) → a < nets → z < nets → delay ≤ 1000000 → IsWithin (netlist.rule_of ticks (event_at up a) (event_at down z) delay)
-  rule_within a z delay up down la lz ld = (edge up a la, edge down z lz, ld, few_offsets (event_at up a) (event_at down z) ticks counted)
+  rule_within a z delay up down la lz ld = (edge up a la, edge down z lz, (ld, few_offsets (event_at up a) (event_at down z) ticks counted))
     where
       edge : (rising : Bool) (n : ℕ) → n < nets → event_at rising n < 2 * nets
       edge true n lt = omega arith

@@ -1,5 +1,5 @@
 -- A netlist without instances.
-use Rattle.std.proofs.Common.{List, [], All, arith}
+use Rattle.std.proofs.Common.{List, [], arith}
 use Rattle.cell_arcs.specs.declared.cells.Cell.{Cell}
 use Rattle.netlist_model.specs.Sound.{Fits}
 

@@ -1,5 +1,5 @@
 -- The rules of pieces of consecutive instances, side by side.
-use Rattle.std.proofs.Common.{◌≡◌, ◌+◌, ◌++◌, ◌∷◌, [], ℕ, zero, suc, List, Option, Some, None, Result, Ok, Err, length, map, slice_get, refl, sym, ap, subst, ◌∙◌, arith, IfOk, MatchResult, Contains, Vec, map-id}
+use Rattle.std.proofs.Common.{◌≡◌, ◌+◌, ◌∷◌, [], ℕ, suc, List, Some, Result, Ok, Err, length, map, slice_get, refl, sym, ap, subst, ◌∙◌, arith, IfOk, MatchResult, Contains, Vec, map-id}
 use Rattle.std.specs.List.{AllZip, flat_map, range_with_len}
 use Rattle.std.specs.Option.{option_map_or}
 use Rattle.std.specs.declared.alloc.AllocError.{AllocError}

@@ -3,6 +3,7 @@ ghost use Rattle.std.specs.Prelude.{◌≡◌, ◌≤◌, ◌<◌, ◌*◌, [], 
 ghost use Rattle.std.specs.List.{flat_map};
 ghost use Rattle.netlist_model.specs.Expansion.{rules_of};
 ghost use Rattle.netlist_model.specs.Sound.{Fits, IsNetlist};
+ghost use Rattle.rule_system.specs.Bounds.{most_rules};
 ghost use Rattle.event_expand.specs.Pieces.{Holds, Grows, rules_at};
 ghost use Rattle.event_expand.specs.Systems.{system_of, system_rules};
 
@@ -69,7 +70,7 @@ pub fn expand<R: Threads + Sync>(
     net: &Netlist,
 ) -> Result<System, AllocError>
     requires fits { Fits library.now net.now.insts }
-    requires few { length (rules_of library.now net.now) ≤ 131072 }
+    requires few { length (rules_of library.now net.now) ≤ most_rules }
     ensures { IfOk result (λ system. system ≡ system_of library.now net.now) }
 {
     let events = 2 * net.net_count() as u32;

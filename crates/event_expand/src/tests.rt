@@ -5,7 +5,7 @@ use crate::expand;
 use cell_arcs::Library;
 use cyc_text::Text;
 use netlist_model::{EventName, Netlist, PinNet, PinNets};
-use rule_system::Rule;
+use rule_system::{MOST_RULES, Rule};
 use std::alloc::Global;
 use std::fmt::Write;
 use std::test::Fail;
@@ -117,7 +117,7 @@ fn expanded<R: Threads + Sync>(
 ) -> Result<String, Fail>
     requires { Fits library.now net.now.insts }
 {
-    if net.rule_count(library) > 131_072 {
+    if net.rule_count(library) > MOST_RULES as u64 {
         return Err("too many rules")?;
     }
     let system = expand(rt, alloc, library, net)?;

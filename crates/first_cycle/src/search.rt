@@ -1,5 +1,6 @@
 //! The first cycle of the kept rules.
 ghost use Rattle.std.specs.Prelude.{◌≡◌, ◌<◌, ◌≤◌, ℕ, IfOk, IsTrue, Bool, true, false, length, sum, ◌+◌, nat_lt, IfSome, IfNone, ◌↔◌, List};
+ghost use Rattle.rule_system.specs.Bounds.{most_events};
 ghost use Rattle.rule_system.specs.Plain.{IsFirstFrom};
 ghost use Rattle.first_cycle.specs.Levels.{IsFirstLeast, level_through};
 ghost use Rattle.first_cycle.specs.Numbers.{AreUnraised};
@@ -68,7 +69,7 @@ fn first_from(
 /// The first rule through which the fewest kept rules lead from an event to the end.
 fn opening_rule(rules: &[Rule], keep: &[bool], levels: &[u32], event: u32) -> usize
     requires some { 0 < length rules.now }
-    requires count { length levels.now ≤ 32768 }
+    requires count { length levels.now ≤ most_events }
     requires keep { length keep.now ≡ length rules.now }
     requires ends { EndsBelow (length levels.now) rules.now }
     ensures { IsFirstLeast (level_through rules.now keep.now levels.now event) (length rules.now) result }
@@ -85,7 +86,7 @@ fn opening_rule(rules: &[Rule], keep: &[bool], levels: &[u32], event: u32) -> us
 /// How many rules it takes from an event to the end through a kept rule, or the number of events.
 fn through(rules: &[Rule], keep: &[bool], levels: &[u32], event: u32, number: usize) -> u32
     requires number { number < length rules.now }
-    requires count { length levels.now ≤ 32768 }
+    requires count { length levels.now ≤ most_events }
     requires keep { length keep.now ≡ length rules.now }
     requires ends { EndsBelow (length levels.now) rules.now }
     ensures { result ≡ level_through rules.now keep.now levels.now event number }

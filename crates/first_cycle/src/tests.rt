@@ -3,7 +3,7 @@ ghost use Rattle.std.specs.Prelude.{◌≡◌, ◌<◌, ◌≤◌, All, IfOk, le
 ghost use Rattle.rule_system.specs.Bounds.{IsRule};
 
 use crate::first_cycle;
-use rule_system::{Rule, System};
+use rule_system::{MOST_EVENTS, MOST_RULES, Rule, System};
 use std::alloc::{AllocError, Global};
 use std::process::Abort;
 use std::test::Fail;
@@ -40,8 +40,8 @@ fn found(
     ends: &[(u32, u32)],
     dropped: &[usize],
 ) -> Result<Vec<u32>, AllocError> {
-    assert!(rt; events <= 32768);
-    assert!(rt; ends.len() <= 131072);
+    assert!(rt; events <= MOST_EVENTS);
+    assert!(rt; ends.len() <= MOST_RULES);
     let rules = rules_between(rt, alloc, events, ends)?;
     let system = System::build(alloc, events, &rules)?;
     let mut keep = vec![in alloc; true; ends.len()]?;

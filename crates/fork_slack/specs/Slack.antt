@@ -1,10 +1,14 @@
 -- The slack of a fork.
-use Rattle.std.specs.Prelude.{ℕ, ◌*◌, ℤ, pos, ◌+ℤ◌, ◌-ℤ◌, List, slice_index_or}
+use Rattle.std.specs.Prelude.{ℕ, ◌*◌, ◌<◌, ◌≤◌, ℤ, pos, ◌+ℤ◌, ◌-ℤ◌, List, slice_index_or}
 use Rattle.fork_slack.specs.declared.slacks.ForkOf.{ForkOf}
 
 -- the arrival of an event in a list of arrivals
 abbrev pub arrival_of : List ℤ → ℕ → ℤ
 arrival_of arrivals event = slice_index_or arrivals event (pos 0)
+
+-- both events of the fork are below a number, its margin and its offset within the limits
+abbrev pub HasBranches : ℕ → ForkOf → Type 0
+HasBranches events fork = (fork.fast < events) × (fork.slow < events) × (fork.margin ≤ 1000000) × (fork.offset ≤ 15)
 
 -- by how much the slow event, a number of periods later, comes after the fast one, beyond the margin
 abbrev pub slack_of : ℕ → ℕ → ForkOf → List ℤ → ℤ

@@ -1,7 +1,8 @@
 //! The slack of a fork.
 ghost use Rattle.std.specs.Prelude.{◌≡◌, ◌*◌, ◌<◌, ◌≤◌, pos, ◌+ℤ◌, All, length};
+ghost use Rattle.cyc_num.specs.Ratio.{IsSmallRatio};
 ghost use Rattle.cyc_num.specs.Within.{LiesWithin};
-ghost use Rattle.fork_slack.specs.Slack.{arrival_of, slack_of};
+ghost use Rattle.fork_slack.specs.Slack.{HasBranches, arrival_of, slack_of};
 
 use cyc_num::Ratio;
 
@@ -23,12 +24,8 @@ pub struct ForkOf {
 /// The slack of a fork, in picoseconds scaled by the period's bottom. The fork is met exactly where it is at least 0.
 /// The arrivals are those from the fork's own root, one for each event, scaled by the period's bottom.
 pub fn slack(fork: &ForkOf, arrivals: &[i64], period: Ratio) -> i64
-    requires top { period.top ≤ 32768000000 }
-    requires bottom { period.bottom ≤ 491520 }
-    requires fast { fork.now.fast < length arrivals.now }
-    requires slow { fork.now.slow < length arrivals.now }
-    requires margin { fork.now.margin ≤ 1000000 }
-    requires offset { fork.now.offset ≤ 15 }
+    requires ratio { IsSmallRatio period.top period.bottom }
+    requires fork { HasBranches (length arrivals.now) fork.now }
     requires within { All (LiesWithin 17000000000000000) arrivals.now }
     ensures { result ≡ slack_of period.top period.bottom fork.now arrivals.now }
 {

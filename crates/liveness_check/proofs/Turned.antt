@@ -56,5 +56,5 @@ pub system_turned : (events : ℕ) (rs : List Rule) → IsSystem events rs → I
 system_turned events rs h = (
   h.0,
   subst (λ (k : ℕ). k ≤ 131072) (sym (length-map rs reversed_rule)) h.1,
-  All-map (IsRule events) reversed_rule rs (All-weaker (IsRule events) (λ (r : Rule). IsRule events (reversed_rule r)) (λ r k. (k.1, k.0, k.2, k.3)) rs h.2),
+  All-map (IsRule events) reversed_rule rs (All-weaker (IsRule events) (λ (r : Rule). IsRule events (reversed_rule r)) (λ r k. (k.1, k.0, k.2)) rs h.2),
 )

@@ -3,7 +3,7 @@ ghost use Rattle.std.specs.Prelude.{◌≡◌, ◌≤◌, All, IfOk, length, vec
 ghost use Rattle.rule_system.specs.Bounds.{IsRule};
 
 use crate::{LiveFault, check};
-use rule_system::{Rule, System};
+use rule_system::{MOST_EVENTS, MOST_OFFSET, MOST_RULES, Rule, System};
 use std::alloc::{AllocError, Global};
 use std::process::Abort;
 use std::test::Fail;
@@ -22,7 +22,7 @@ fn rules_of(
     'parts: for (source, target, offset) in parts {
         assert!(rt; *source < events);
         assert!(rt; *target < events);
-        assert!(rt; *offset <= 15);
+        assert!(rt; *offset <= MOST_OFFSET);
         rules.push(Rule {
             source: *source,
             target: *target,
@@ -41,8 +41,8 @@ fn verdict(
     parts: &[(u32, u32, u32)],
 ) -> Result<String, AllocError> {
     assert!(rt; 0 < events);
-    assert!(rt; events <= 32768);
-    assert!(rt; parts.len() <= 131072);
+    assert!(rt; events <= MOST_EVENTS);
+    assert!(rt; parts.len() <= MOST_RULES);
     let rules = rules_of(rt, alloc, events, parts)?;
     let system = System::build(alloc, events, &rules)?;
     match check(alloc, &system, 0) {

@@ -8,4 +8,4 @@ use Rattle.analysis.specs.Forks.{IsFork}
 
 pub forks_within : (c : Circuit) → sound.IsNetlist c → All (IsFork (2 * length c.nets)) (system_forks c)
 forks_within c is = All-map (IsFork (2 * length c.nets)) system_fork c.forks
-    (λ k d within. let f : sound.IsFork (length c.nets) (slice_index_or c.forks k d) = is.forks k d within in (f.root, f.fast, f.slow, f.margin, f.offset))
+    (λ k d within. let f : sound.IsFork (length c.nets) (slice_index_or c.forks k d) = is.forks k d within in (f.root, (f.fast, f.slow, f.margin, f.offset)))

@@ -3,6 +3,7 @@ ghost use Rattle.std.specs.Prelude.{◌≡◌, ◌≢◌, ◌≤◌, ◌<◌, �
 ghost use Rattle.liveness_check.specs.Liveness.{IsFault};
 ghost use Rattle.netlist_model.specs.Expansion.{rules_of};
 ghost use Rattle.netlist_model.specs.Sound.{Fits};
+ghost use Rattle.rule_system.specs.Bounds.{most_rules};
 ghost use Rattle.rule_system.specs.Rules.{source_of};
 ghost use Rattle.analysis.specs.Faults.{live_fault};
 ghost use Rattle.event_expand.specs.Systems.{system_of};
@@ -79,7 +80,7 @@ fn analyse_whole<R: Threads + Sync, M: ArrivalMaker>(
     start: &[u32],
 ) -> Result<Analysed, NetlistFault>
     requires fits { Fits library.now netlist.now.insts }
-    requires few { length (rules_of library.now netlist.now) ≤ 131072 }
+    requires few { length (rules_of library.now netlist.now) ≤ most_rules }
     requires rooted { IsRooted library.now netlist.now root }
     ensures system { IfOk result (λ a. a.system ≡ system_of library.now netlist.now) }
     ensures found { IfOk result (λ a. IsFinding library.now netlist.now (Ok a.analysis)) }

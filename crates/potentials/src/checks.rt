@@ -1,5 +1,6 @@
 //! Whether numbers of events rise along each rule by at least its weight.
 ghost use Rattle.std.specs.Prelude.{◌≡◌, ◌<◌, ◌≤◌, ◌↔◌, ℕ, ◌+ℤ◌, ◌≤ℤ◌, All, IsTrue, length, List};
+ghost use Rattle.cyc_num.specs.Ratio.{IsSmallRatio};
 ghost use Rattle.rule_system.specs.Weights.{rule_weight, time_of, IsFeasible};
 ghost use Rattle.rule_system.specs.Bounds.{IsRule};
 ghost use Rattle.cyc_num.specs.Within.{LiesWithin};
@@ -11,8 +12,7 @@ use rule_system::{Rule, System};
 /// Whether along each rule the numbers rise by at least its weight, `bottom * delay - top * offset`.
 /// The numbers `x`, one for each event, are in picoseconds scaled by the period's bottom. One pass over the rules.
 pub fn feasible(system: &System, period: Ratio, x: &[i64]) -> bool
-    requires top { period.top ≤ 32768000000 }
-    requires bottom { period.bottom ≤ 491520 }
+    requires ratio { IsSmallRatio period.top period.bottom }
     requires count { length x.now ≡ system.now.events }
     requires within { All (LiesWithin 40000000000000000) x.now }
     ensures { IsTrue result ↔ IsFeasible period.top period.bottom system.now.rules x.now }
@@ -22,8 +22,7 @@ pub fn feasible(system: &System, period: Ratio, x: &[i64]) -> bool
 
 /// Whether along each rule the numbers rise by at least its weight.
 pub fn are_loose(system: &System, top: u64, bottom: u64, times: &[i64]) -> bool
-    requires top { top ≤ 32768000000 }
-    requires bottom { bottom ≤ 491520 }
+    requires ratio { IsSmallRatio top bottom }
     requires count { length times.now ≡ system.now.events }
     requires within { All (LiesWithin 40000000000000000) times.now }
     ensures { IsTrue result ↔ IsFeasible top bottom system.now.rules times.now }
@@ -38,8 +37,7 @@ pub fn are_loose(system: &System, top: u64, bottom: u64, times: &[i64]) -> bool
 
 /// Whether the numbers rise along the rule by at least its weight.
 fn is_loose(rule: Rule, top: u64, bottom: u64, times: &[i64]) -> bool
-    requires top { top ≤ 32768000000 }
-    requires bottom { bottom ≤ 491520 }
+    requires ratio { IsSmallRatio top bottom }
     requires rule { IsRule (length times.now) rule }
     requires within { All (LiesWithin 40000000000000000) times.now }
     ensures { IsTrue result ↔ ((time_of times.now rule.source +ℤ rule_weight top bottom rule) ≤ℤ time_of times.now rule.target) }

@@ -1,6 +1,7 @@
 //! Makers of arrivals: the trait, and the one on one thread.
 ghost use Rattle.std.specs.Prelude.{◌≡◌, ◌<◌, ◌≤◌, ℕ, pos, All, IfOk};
 ghost use Rattle.std.specs.Thread.{IsSync};
+ghost use Rattle.cyc_num.specs.Ratio.{IsSmallRatio};
 ghost use Rattle.rule_system.specs.Walks.{IsConnected};
 ghost use Rattle.rule_system.specs.Weights.{HasNoGain, AreArrivals};
 ghost use Rattle.cyc_num.specs.Within.{LiesWithin};
@@ -33,8 +34,7 @@ pub trait ArrivalMaker {
         reduced: &Reduced,
     ) -> Result<Times, AllocError>
         requires sync { IsSync R.row }
-        requires top { period.top ≤ 32768000000 }
-        requires bottom { period.bottom ≤ 491520 }
+        requires ratio { IsSmallRatio period.top period.bottom }
         requires root { root < system.now.events }
         requires connected { IsConnected system.now.events system.now.rules root }
         requires no_gain { HasNoGain period.top period.bottom system.now.rules }

@@ -1,5 +1,6 @@
 //! Rounds over all rules, which raise weights of walks to the arrivals.
 ghost use Rattle.std.specs.Prelude.{◌≡◌, ◌<◌, ◌≤◌, ℕ, ℤ, pos, ◌+ℤ◌, ◌≤ℤ◌, All, length};
+ghost use Rattle.cyc_num.specs.Ratio.{IsSmallRatio};
 ghost use Rattle.rule_system.specs.Weights.{time_of, HasNoGain, AreAttained, AreArrivals, IsRound};
 ghost use Rattle.rule_system.specs.Bounds.{IsRule};
 ghost use Rattle.potentials.specs.Raised.{raised, AreAbove, AreBelow};
@@ -15,8 +16,7 @@ use rule_system::{Rule, System};
 
 /// Raises the number of the rule's target to what the rule offers.
 fn relax(rule: Rule, top: u64, bottom: u64, times: &mut [i64])
-    requires top { top ≤ 32768000000 }
-    requires bottom { bottom ≤ 491520 }
+    requires ratio { IsSmallRatio top bottom }
     requires rule { IsRule (length times.old) rule }
     requires low { AreAbove 17000000000000000 times.old }
     requires high { AreBelow 17000000000000000 times.old }
@@ -29,8 +29,7 @@ fn relax(rule: Rule, top: u64, bottom: u64, times: &mut [i64])
 
 /// Relaxes each rule once.
 fn round(system: &System, root: u32, top: u64, bottom: u64, times: &mut [i64])
-    requires top { top ≤ 32768000000 }
-    requires bottom { bottom ≤ 491520 }
+    requires ratio { IsSmallRatio top bottom }
     requires root { root < system.now.events }
     requires no_gain { HasNoGain top bottom system.now.rules }
     requires low { AreAbove 17000000000000000 times.old }
@@ -48,8 +47,7 @@ fn round(system: &System, root: u32, top: u64, bottom: u64, times: &mut [i64])
 /// Rounds over all rules (Bellman 1958, Ford 1956), until no rule raises a number:
 /// at most as many as there are events, and none where the numbers are the arrivals already.
 pub fn settle(system: &System, root: u32, top: u64, bottom: u64, times: &mut [i64])
-    requires top { top ≤ 32768000000 }
-    requires bottom { bottom ≤ 491520 }
+    requires ratio { IsSmallRatio top bottom }
     requires root { root < system.now.events }
     requires no_gain { HasNoGain top bottom system.now.rules }
     requires weights { ArePathWeights top bottom system.now.events system.now.rules root times.old }

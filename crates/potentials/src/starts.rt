@@ -1,5 +1,6 @@
 //! Weights of walks from the root, for a search to begin with.
 ghost use Rattle.std.specs.Prelude.{◌≡◌, ◌<◌, ◌≤◌, ℕ, pos, All, IfOk};
+ghost use Rattle.cyc_num.specs.Ratio.{IsSmallRatio};
 ghost use Rattle.rule_system.specs.Weights.{time_of, AreAttained};
 ghost use Rattle.cyc_num.specs.Within.{LiesWithin};
 ghost use Rattle.potentials.specs.Times.{AllReachable, ArePathWeights};
@@ -19,8 +20,7 @@ pub fn first_weights(
     root: u32,
     period: Ratio,
 ) -> Result<Times, AllocError>
-    requires top { period.top ≤ 32768000000 }
-    requires bottom { period.bottom ≤ 491520 }
+    requires ratio { IsSmallRatio period.top period.bottom }
     requires root { root < system.now.events }
     requires reachable { AllReachable system.now.events system.now.rules root }
     ensures weights { IfOk result (λ x. ArePathWeights period.top period.bottom system.now.events system.now.rules root x) }
@@ -41,8 +41,7 @@ pub fn first_weights_by(
     period: Ratio,
     reduced: &Reduced,
 ) -> Result<Times, AllocError>
-    requires top { period.top ≤ 32768000000 }
-    requires bottom { period.bottom ≤ 491520 }
+    requires ratio { IsSmallRatio period.top period.bottom }
     requires root { root < system.now.events }
     requires reachable { AllReachable system.now.events system.now.rules root }
     ensures weights { IfOk result (λ x. ArePathWeights period.top period.bottom system.now.events system.now.rules root x) }
@@ -64,8 +63,7 @@ pub fn path_weights(
     top: u64,
     bottom: u64,
 ) -> Result<Vec<i64>, AllocError>
-    requires top { top ≤ 32768000000 }
-    requires bottom { bottom ≤ 491520 }
+    requires ratio { IsSmallRatio top bottom }
     requires root { root < system.now.events }
     requires reachable { AllReachable system.now.events system.now.rules root }
     ensures weights { IfOk result (λ x. ArePathWeights top bottom system.now.events system.now.rules root x.items) }

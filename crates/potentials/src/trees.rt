@@ -1,5 +1,6 @@
 //! Walks from the root to each event, along rules that are proposed.
 ghost use Rattle.std.specs.Prelude.{◌≡◌, ◌<◌, ◌≤◌, ◌↔◌, ℕ, pos, false, All, IsTrue, length, replicate};
+ghost use Rattle.cyc_num.specs.Ratio.{IsSmallRatio};
 ghost use Rattle.rule_system.specs.Rules.{source_of, target_of};
 ghost use Rattle.rule_system.specs.Bounds.{IsSystem};
 ghost use Rattle.cyc_num.specs.Within.{LiesWithin};
@@ -19,8 +20,7 @@ fn attach(
     times: &mut [i64],
     reached: &mut [bool],
 )
-    requires top { top ≤ 32768000000 }
-    requires bottom { bottom ≤ 491520 }
+    requires ratio { IsSmallRatio top bottom }
     requires root { root < system.now.events }
     requires number { number < length system.now.rules }
     requires tree { IsTree top bottom system.now.events system.now.rules root times.old reached.old }
@@ -45,8 +45,7 @@ fn follow(
     times: &mut [i64],
     reached: &mut [bool],
 )
-    requires top { top ≤ 32768000000 }
-    requires bottom { bottom ≤ 491520 }
+    requires ratio { IsSmallRatio top bottom }
     requires root { root < system.now.events }
     requires tree { IsTree top bottom system.now.events system.now.rules root times.old reached.old }
     ensures { IsTree top bottom system.now.events system.now.rules root times.new reached.new }
@@ -68,8 +67,7 @@ fn spread(
     times: &mut [i64],
     reached: &mut [bool],
 )
-    requires top { top ≤ 32768000000 }
-    requires bottom { bottom ≤ 491520 }
+    requires ratio { IsSmallRatio top bottom }
     requires root { root < system.now.events }
     requires tree { IsTree top bottom system.now.events system.now.rules root times.old reached.old }
     ensures tree { IsTree top bottom system.now.events system.now.rules root times.new reached.new }
@@ -102,8 +100,7 @@ fn complete(
     times: &mut [i64],
     reached: &mut [bool],
 )
-    requires top { top ≤ 32768000000 }
-    requires bottom { bottom ≤ 491520 }
+    requires ratio { IsSmallRatio top bottom }
     requires root { root < system.now.events }
     requires reachable { AllReachable system.now.events system.now.rules root }
     requires tree { IsTree top bottom system.now.events system.now.rules root times.old reached.old }
@@ -130,8 +127,7 @@ pub fn grow(
     times: &mut [i64],
     reached: &mut [bool],
 )
-    requires top { top ≤ 32768000000 }
-    requires bottom { bottom ≤ 491520 }
+    requires ratio { IsSmallRatio top bottom }
     requires root { root < system.now.events }
     requires reachable { AllReachable system.now.events system.now.rules root }
     requires zeros { times.old ≡ replicate system.now.events (pos 0) }

@@ -4,7 +4,7 @@ use Rattle.std.proofs.lemmas.Int.{ints}
 use Rattle.cyc_num.specs.Within.{LiesWithin}
 use Rattle.rule_system.specs.Bounds.{EventRules}
 use Rattle.rule_system.specs.Walks.{IsWalk, EndsBelow}
-use Rattle.rule_system.specs.Weights.{weight, time_of, Covers, HasNoGain, IsFeasible}
+use Rattle.rule_system.specs.Weights.{weight, time_of, Covers, IsFeasible}
 use Rattle.arrival_words.specs.About.{About, system_of, time_limit}
 use Rattle.arrival_words.specs.Known.{NothingSinks}
 use Rattle.relax_rounds.specs.Rounds.{AreAttainedIn, IsFeasibleIn}

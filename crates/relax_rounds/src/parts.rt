@@ -1,6 +1,7 @@
 // Parts of a system's rules, which workers relax side by side.
 ghost use Rattle.std.specs.Prelude.{◌≡◌, ◌+◌, ◌<◌, ◌≤◌, ℕ, length};
 ghost use Rattle.std.specs.Thread.{IsSync};
+ghost use Rattle.rule_system.specs.Bounds.{most_rules};
 ghost use Rattle.arrival_words.specs.Known.{Belongs, NothingSinks};
 ghost use Rattle.relax_rounds.specs.Parts.{part_begin, RelaxesParts};
 
@@ -10,7 +11,7 @@ use std::thread::{Threads, join_mut};
 
 /// The number of the rule with which the part of a worker begins. Workers are counted from 0 here.
 fn begin_of(rules: usize, workers: u32, worker: u32) -> usize
-    requires rules { rules ≤ 131072 }
+    requires rules { rules ≤ most_rules }
     requires some { 0 < workers }
     requires workers { workers ≤ 64 }
     requires worker { worker ≤ workers }

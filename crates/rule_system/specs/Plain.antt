@@ -1,7 +1,9 @@
 -- What walks of so many rules the plain programs try.
-use Rattle.std.specs.Prelude.{◌≡◌, ℕ, ◌*◌, ◌<◌, ◌≤◌, ℤ, pos, ◌+ℤ◌, ◌≤ℤ◌, Bool, Option, Some, None, List, ◌∷◌, length, ⊤}
+use Rattle.std.specs.Prelude.{◌≡◌, ℕ, ◌*◌, ◌<◌, ◌≤◌, ℤ, ◌+ℤ◌, ◌≤ℤ◌, Bool, Option, Some, None, List, ◌∷◌, length, ⊤}
 use Rattle.std.specs.Int.{int_max}
+use Rattle.cyc_num.specs.Within.{LiesWithin}
 use Rattle.rule_system.specs.declared.rules.Rule.{Rule}
+use Rattle.rule_system.specs.Bounds.{most_weight}
 use Rattle.rule_system.specs.Rules.{source_of, target_of}
 use Rattle.rule_system.specs.Walks.{IsWalk, IsCycle, IsKept}
 use Rattle.rule_system.specs.Weights.{weight}
@@ -51,10 +53,10 @@ abbrev pub IsGreatest : ℕ → ℕ → List Rule → ℕ → ℕ → ℕ → Op
 IsGreatest top bottom rules left a b None = (walk : List ℕ) → IsShortWalk rules left a walk b → ⊥
 IsGreatest top bottom rules left a b (Some time) = IsGreatestWeight top bottom rules left a b time
 
--- none, or within so many times the greatest weight of a rule
+-- none, or within so many times the limit of a rule's weight
 abbrev pub IsWithin : ℕ → Option ℤ → Type 0
 IsWithin left None = ⊤
-IsWithin left (Some time) = (pos 0 ≤ℤ (time +ℤ pos (491520000000 * left))) × (time ≤ℤ pos (491520000000 * left))
+IsWithin left (Some time) = LiesWithin (most_weight * left) time
 
 -- the greater of two weights, where none is less than any
 abbrev pub greater_of : Option ℤ → Option ℤ → Option ℤ

@@ -3,9 +3,10 @@
 ghost use Rattle.std.specs.Prelude.{◌≡◌, ℕ, ◌+◌, ◌*◌, ◌<◌, ◌≤◌, Bool, ℤ, pos, ◌+ℤ◌, ◌≤ℤ◌, ◌<ℤ◌, ◌↔◌, List, length};
 ghost use Rattle.std.specs.Int.{IsGcd};
 ghost use Rattle.std.specs.List.{AllByRecursion};
+ghost use Rattle.cyc_num.specs.Ratio.{IsSmallRatio};
 ghost use Rattle.rule_system.specs.declared.rules.Rule.{Rule};
 ghost use Rattle.rule_system.specs.Rules.{rule_at, source_of, target_of, delay_sum, offset_sum};
-ghost use Rattle.rule_system.specs.Bounds.{IsSystem, AreSmallSums};
+ghost use Rattle.rule_system.specs.Bounds.{IsSystem, AreSmallSums, most_delay, most_offset};
 ghost use Rattle.rule_system.specs.Walks.{IsWalk, IsCycle, IsSimpleCycle, IsLive, IsConnected, IsKept, KeptPath, ClosedPart, EndsBelow, Reaches, has_no_offset};
 ghost use Rattle.rule_system.specs.Weights as w;
 ghost use Rattle.rule_system.specs.FirstCycle.{IsFirstCycle};
@@ -150,7 +151,7 @@ pub fn unsettled_numbers_show_a_gain()
 pub fn sums_are_bounded()
     ensures { (events : ℕ) (rules : List Rule) → IsSystem events rules →
         (a : ℕ) (walk : List ℕ) (b : ℕ) → IsWalk rules a walk b →
-        (delay_sum rules walk ≤ 1000000 * length walk) × (offset_sum rules walk ≤ 15 * length walk) }
+        (delay_sum rules walk ≤ most_delay * length walk) × (offset_sum rules walk ≤ most_offset * length walk) }
 {}
 
 /// A cycle without repeated events has at most as many rules as there are events.
@@ -206,7 +207,7 @@ pub fn live_systems_have_a_period()
 pub fn periods_are_bounded()
     ensures { (events : ℕ) (rules : List Rule) (top bottom : ℕ) →
         IsSystem events rules → IsLive rules → w.IsPeriod rules top bottom →
-        (top ≤ 32768000000) × (bottom ≤ 491520) }
+        IsSmallRatio top bottom }
 {}
 
 /// Without a cycle that gains, each event that a walk from the root reaches has an arrival.

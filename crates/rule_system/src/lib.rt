@@ -15,6 +15,7 @@
 mod cycles;
 pub mod inverter_ring;
 pub mod laws;
+mod limits;
 pub mod measures;
 pub mod plain;
 mod rows;
@@ -24,5 +25,6 @@ mod systems;
 mod tests;
 
 pub use cycles::Cycle;
+pub use limits::{MOST_DELAY, MOST_EVENTS, MOST_OFFSET, MOST_RULES};
 pub use rules::Rule;
 pub use systems::System;

@@ -1,7 +1,8 @@
 //! Measures of rules and walks: weights, what a rule offers its target, sums along a walk, and whether rule numbers make one.
 ghost use Rattle.std.specs.Prelude.{◌≡◌, ◌<◌, ◌≤◌, ◌+ℤ◌, ℕ, All, IfNone, IfSome, true, false, length};
+ghost use Rattle.cyc_num.specs.Ratio.{IsSmallRatio, most_bottom, most_top};
 ghost use Rattle.cyc_num.specs.Within.{LiesWithin};
-ghost use Rattle.rule_system.specs.Bounds.{IsRule};
+ghost use Rattle.rule_system.specs.Bounds.{IsRule, IsSmallRule, most_weight};
 ghost use Rattle.rule_system.specs.Rules.{delay_sum, offset_sum};
 ghost use Rattle.rule_system.specs.Walks.{IsCycle, IsWalk};
 ghost use Rattle.rule_system.specs.Weights.{rule_weight, time_of};
@@ -10,12 +11,10 @@ use crate::rules::Rule;
 
 /// The weight that a ratio gives a rule, in picoseconds scaled by the ratio's bottom: bottom times its delay, less top times its offset.
 pub fn weight_of(rule: Rule, top: u64, bottom: u64) -> i64
-    requires top { top ≤ 32768000000 }
-    requires bottom { bottom ≤ 491520 }
-    requires delay { rule.delay ≤ 1000000 }
-    requires offset { rule.offset ≤ 15 }
+    requires ratio { IsSmallRatio top bottom }
+    requires rule { IsSmallRule rule }
     ensures weight { result ≡ rule_weight top bottom rule }
-    ensures within { LiesWithin 491520000000 result }
+    ensures within { LiesWithin most_weight result }
 {
     let gain = bottom * rule.delay as u64;
     let cost = top * rule.offset as u64;
@@ -24,8 +23,7 @@ pub fn weight_of(rule: Rule, top: u64, bottom: u64) -> i64
 
 /// What a rule offers its target: the number of its source and the rule's weight.
 pub fn offered(rule: Rule, top: u64, bottom: u64, times: &[i64]) -> i64
-    requires top { top ≤ 32768000000 }
-    requires bottom { bottom ≤ 491520 }
+    requires ratio { IsSmallRatio top bottom }
     requires rule { IsRule (length times.now) rule }
     requires within { LiesWithin 40000000000000000 (time_of times.now rule.source) }
     ensures { result ≡ time_of times.now rule.source +ℤ rule_weight top bottom rule }
@@ -36,7 +34,7 @@ pub fn offered(rule: Rule, top: u64, bottom: u64, times: &[i64]) -> i64
 /// The sum of the delays along a list of rule numbers, in picoseconds.
 pub fn delay_of(rules: &[Rule], walk: &[u32]) -> u64
     requires within { All (λ n. n < length rules.now) walk.now }
-    requires small { delay_sum rules.now walk.now ≤ 32768000000 }
+    requires small { delay_sum rules.now walk.now ≤ most_top }
     ensures { result ≡ delay_sum rules.now walk.now }
 {
     let mut sum = 0;
@@ -49,7 +47,7 @@ pub fn delay_of(rules: &[Rule], walk: &[u32]) -> u64
 /// The sum of the offsets along a list of rule numbers, in repetitions.
 pub fn offset_of(rules: &[Rule], walk: &[u32]) -> u64
     requires within { All (λ n. n < length rules.now) walk.now }
-    requires small { offset_sum rules.now walk.now ≤ 491520 }
+    requires small { offset_sum rules.now walk.now ≤ most_bottom }
     ensures { result ≡ offset_sum rules.now walk.now }
 {
     let mut sum = 0;

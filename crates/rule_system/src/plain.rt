@@ -3,7 +3,10 @@
 //! systems alone: their time is exponential in the number of events.
 ghost use Rattle.std.specs.Prelude.{◌≡◌, ◌↔◌, ℕ, ◌<◌, ◌≤◌, ◌+ℤ◌, ◌≤ℤ◌, pos, List, IsTrue, IfOk, IfSome, IfNone, Some, length};
 ghost use Rattle.std.specs.Int.{IsGcd};
+ghost use Rattle.cyc_num.specs.Ratio.{IsSmallRatio};
+ghost use Rattle.cyc_num.specs.Within.{LiesWithin};
 ghost use Rattle.rule_system.specs.FirstCycle.{IsFirstCycle, kept_by};
+ghost use Rattle.rule_system.specs.Bounds.{most_events, most_rules, most_weight};
 ghost use Rattle.rule_system.specs.Plain.{IsFirstFrom, IsFirstWalk, IsKeptWalk, NoneFrom, IsGreatest, IsGreatestClosing, IsWithin, greater_of, after_rule};
 ghost use Rattle.rule_system.specs.Walks.{IsConnected, IsCycle, IsKept, Reaches};
 ghost use Rattle.rule_system.specs.Weights.{AreArrivals, HasNoGain, IsArrival, IsPeriod};
@@ -61,7 +64,7 @@ fn first_walk(
     to: u32,
     count: u32,
 ) -> Result<Option<Vec<u32>>, AllocError>
-    requires rules { length rules.now ≤ 131072 }
+    requires rules { length rules.now ≤ most_rules }
     requires keep { length keep.now ≡ length rules.now }
     ensures some { IfOk result (λ found. IfSome found (λ walk. IsFirstWalk rules.now (kept_by keep.now) count from walk.items to)) }
     ensures none { IfOk result (λ found. IfNone found ((walk : List ℕ) → IsKeptWalk rules.now (kept_by keep.now) count from walk to → ⊥)) }
@@ -93,8 +96,7 @@ pub fn arrivals(
     system: &System,
     root: u32,
 ) -> Result<Vec<i64>, AllocError>
-    requires top { top ≤ 32768000000 }
-    requires bottom { bottom ≤ 491520 }
+    requires ratio { IsSmallRatio top bottom }
     requires root { root < system.now.events }
     requires connected { IsConnected system.now.events system.now.rules root }
     requires no_gain { HasNoGain top bottom system.now.rules }
@@ -110,8 +112,7 @@ pub fn arrivals(
 
 /// The arrival of an event that a walk from the root reaches.
 fn arrival(top: u64, bottom: u64, system: &System, root: u32, event: u32) -> i64
-    requires top { top ≤ 32768000000 }
-    requires bottom { bottom ≤ 491520 }
+    requires ratio { IsSmallRatio top bottom }
     requires root { root < system.now.events }
     requires reached { Reaches system.now.rules root event }
     requires no_gain { HasNoGain top bottom system.now.rules }
@@ -126,8 +127,7 @@ fn arrival(top: u64, bottom: u64, system: &System, root: u32, event: u32) -> i64
 /// Whether a ratio in lowest terms is the period: whether the greatest weight of the cycles is 0.
 /// Tries for each rule the walks from its target back to its source.
 pub fn is_period(top: u64, bottom: u64, system: &System) -> bool
-    requires top { top ≤ 32768000000 }
-    requires bottom { bottom ≤ 491520 }
+    requires ratio { IsSmallRatio top bottom }
     requires positive { 1 ≤ bottom }
     requires lowest { IsGcd top bottom 1 }
     ensures { IsTrue result ↔ IsPeriod system.now.rules top bottom }
@@ -152,8 +152,7 @@ fn is_even(best: Option<i64>) -> bool
 
 /// The greatest weight of a cycle that begins with a rule and has at most as many more rules as there are events.
 fn closing_weight(top: u64, bottom: u64, system: &System, number: usize) -> Option<i64>
-    requires top { top ≤ 32768000000 }
-    requires bottom { bottom ≤ 491520 }
+    requires ratio { IsSmallRatio top bottom }
     requires number { number < length system.now.rules }
     ensures { IsGreatestClosing top bottom system.now.rules system.now.events number result }
 {
@@ -173,9 +172,8 @@ fn greatest_weight(
     to: u32,
     left: u32,
 ) -> Option<i64>
-    requires top { top ≤ 32768000000 }
-    requires bottom { bottom ≤ 491520 }
-    requires left { left ≤ 32768 }
+    requires ratio { IsSmallRatio top bottom }
+    requires left { left ≤ most_events }
     ensures greatest { IsGreatest top bottom system.now.rules left from to result }
     ensures within { IsWithin left result }
 {
@@ -205,9 +203,8 @@ fn greater(a: Option<i64>, b: Option<i64>) -> Option<i64>
 
 /// The weight with that of a rule before it.
 fn after(first: i64, rest: Option<i64>) -> Option<i64>
-    requires low { pos 0 ≤ℤ (first +ℤ pos 491520000000) }
-    requires high { first ≤ℤ pos 491520000000 }
-    requires rest { IsWithin 32768 rest }
+    requires first { LiesWithin most_weight first }
+    requires rest { IsWithin most_events rest }
     ensures { result ≡ after_rule first rest }
 {
     match rest {

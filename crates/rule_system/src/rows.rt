@@ -1,5 +1,6 @@
 //! Rule numbers by event, all in one list.
 ghost use Rattle.std.specs.Prelude.{◌≡◌, ℕ, ◌+◌, ◌<◌, ◌≤◌, ◌++◌, All, IfOk, List, OnOk, Option, None, Some, get_or, length, replicate, slice_range, slice_set};
+ghost use Rattle.rule_system.specs.Bounds.{most_rules};
 ghost use Rattle.rule_system.specs.Rows.{AreChains, AreParts, IsChain, places_from};
 
 use std::alloc::{AllocError, Global};
@@ -15,7 +16,7 @@ impl Rows {
     /// For each event the places in a list of events that hold it, in rising order. Linear.
     pub fn of(alloc: Global, events: u32, ends: &[u32]) -> Result<Rows, AllocError>
         requires ends { All (λ e. e < events) ends.now }
-        requires room { length ends.now ≤ 131072 }
+        requires room { length ends.now ≤ most_rules }
         ensures { IfOk result (λ rows. AreParts (places_from ends.now 0) events rows.begins.items rows.numbers.items) }
     {
         let mut firsts = vec![in alloc; None; events as usize]?;
@@ -40,7 +41,7 @@ impl Rows {
 /// Links the places of each event: from its first place, and from each one to the next.
 fn link_all(events: u32, ends: &[u32], firsts: &mut [Option<u32>], nexts: &mut [Option<u32>])
     requires ends { All (λ e. e < events) ends.now }
-    requires room { length ends.now ≤ 131072 }
+    requires room { length ends.now ≤ most_rules }
     requires firsts { firsts.old ≡ replicate events None }
     requires nexts { nexts.old ≡ replicate (length ends.now) None }
     ensures { AreChains ends.now 0 events firsts.new nexts.new }
@@ -56,7 +57,7 @@ fn link_all(events: u32, ends: &[u32], firsts: &mut [Option<u32>], nexts: &mut [
 fn link(place: usize, end: u32, firsts: &mut [Option<u32>], nexts: &mut [Option<u32>])
     requires place { place < length nexts.old }
     requires end { end < length firsts.old }
-    requires room { length nexts.old ≤ 131072 }
+    requires room { length nexts.old ≤ most_rules }
     ensures firsts { firsts.new ≡ slice_set firsts.old end (Some place) }
     ensures nexts { nexts.new ≡ slice_set nexts.old place (get_or firsts.old end None) }
 {

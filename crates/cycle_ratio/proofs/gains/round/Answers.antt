@@ -13,7 +13,7 @@ rules-preserved c =
       | then-raise w ↦
           let test = rw c.rules-rule-items.ensures.rules at (sym c.raise.ensures.result ∙ w.if-raise.true) in
           rw (w.rose-is, c.raise.ensures.numbers, c.raise.ensures.parents, c.rules-rule-items.ensures.rules)
-          (part_raise _ _ _ _ _ _ _ _ _ c.requires.bottom c.rules-rule-items.ensures.system inside test c.rules.invariant)
+          (part_raise _ _ _ _ _ _ _ _ _ c.requires.ratio.1 c.rules-rule-items.ensures.system inside test c.rules.invariant)
       | else-raise w ↦
           let test = rw c.rules-rule-items.ensures.rules at (sym c.raise.ensures.result ∙ w.if-raise.false) in
           rw (w.rose-is, c.raise.ensures.numbers, c.raise.ensures.parents, c.rules-rule-items.ensures.rules)

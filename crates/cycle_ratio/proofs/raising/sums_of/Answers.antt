@@ -13,8 +13,7 @@ offset_of-offset-requires-clause-within c = rw c.rules-rules.ensures.rules (shor
 pub offset_of-offset-requires-clause-small : goal.offset_of-offset-requires-clause-small
 offset_of-offset-requires-clause-small c = rw c.rules-rules.ensures.rules (short_cycle_sums _ _ _ c.rules-rules.ensures.system c.requires).offset
 
-pub returns-clause-small_delay : goal.returns-clause-small_delay
-returns-clause-small_delay c = rw (c.delay_of-delay.ensures, c.rules-rules.ensures.rules) (short_cycle_sums _ _ _ c.rules-rules.ensures.system c.requires).delay
-
-pub returns-clause-small_offset : goal.returns-clause-small_offset
-returns-clause-small_offset c = rw (c.offset_of-offset.ensures, c.rules-rules.ensures.rules) (short_cycle_sums _ _ _ c.rules-rules.ensures.system c.requires).offset
+pub returns-clause-small : goal.returns-clause-small
+returns-clause-small c =
+    let sums = short_cycle_sums _ _ _ c.rules-rules.ensures.system c.requires in
+    (rw (c.delay_of-delay.ensures, c.rules-rules.ensures.rules) sums.delay, rw (c.offset_of-offset.ensures, c.rules-rules.ensures.rules) sums.offset)

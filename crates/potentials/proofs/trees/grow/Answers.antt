@@ -8,4 +8,4 @@ pub returns-clause-weights : goal.returns-clause-weights
 returns-clause-weights c = whole_tree_weights _ _ _ _ _ _ _ c.complete.ensures.tree c.complete.ensures.all
 
 pub returns-clause-within : goal.returns-clause-within
-returns-clause-within c = weights_all_within _ _ _ _ _ _ c.requires.top c.requires.bottom c.complete.ensures.system c.requires.root (whole_tree_weights _ _ _ _ _ _ _ c.complete.ensures.tree c.complete.ensures.all)
+returns-clause-within c = weights_all_within _ _ _ _ _ _ c.requires.ratio.0 c.requires.ratio.1 c.complete.ensures.system c.requires.root (whole_tree_weights _ _ _ _ _ _ _ c.complete.ensures.tree c.complete.ensures.all)
