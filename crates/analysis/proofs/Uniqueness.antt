@@ -1,10 +1,11 @@
 -- At most one analysis.
-use Rattle.std.proofs.Common.{◌≡◌, ℕ, ◌*◌, ◌<◌, ℤ, pos, ◌+ℤ◌, ◌-ℤ◌, List, length, refl, sym, subst, ◌∙◌}
+use Rattle.std.proofs.Common.{◌≡◌, ℕ, ◌<◌, ℤ, pos, List, length, refl, sym, subst, ◌∙◌}
 use Rattle.std.proofs.lemmas.List.{same_lists, get_or_default}
 use Rattle.cyc_num.specs.Ratio.{Fraction}
 use Rattle.rule_system.specs.declared.rules.Rule.{Rule}
 use Rattle.rule_system.specs.Weights.{IsArrival, time_of}
 use Rattle.fork_slack.specs.declared.slacks.ForkOf.{ForkOf}
+use Rattle.fork_slack.specs.Slack.{slack_between}
 use Rattle.analysis.specs.declared.analyses.Analysis.{Analysis}
 use Rattle.analysis.specs.Forks.{fork_at, IsSlack, AreSlacks}
 
@@ -16,8 +17,8 @@ same_slack : (top bottom : ℕ) (rs : List Rule) (fork : ForkOf) (x y : ℤ) →
 same_slack top bottom rs fork x y one h k =
     let slow : h.slow ≡ k.slow = one.single fork.root fork.slow h.slow k.slow h.slow_arrives k.slow_arrives in
     let fast : h.fast ≡ k.fast = one.single fork.root fork.fast h.fast k.fast h.fast_arrives k.fast_arrives in
-    let e : x ≡ ((h.slow -ℤ h.fast) +ℤ pos (top * fork.offset)) -ℤ pos (bottom * fork.margin) = h.is_slack in
-    let f : y ≡ ((k.slow -ℤ k.fast) +ℤ pos (top * fork.offset)) -ℤ pos (bottom * fork.margin) = k.is_slack in
+    let e : x ≡ slack_between top bottom fork h.slow h.fast = h.is_slack in
+    let f : y ≡ slack_between top bottom fork k.slow k.fast = k.is_slack in
     cc
 
 same_times : (xs ys : List ℤ) → length xs ≡ length ys → ((n : ℕ) → n < length xs → time_of xs n ≡ time_of ys n) → xs ≡ ys

@@ -1,9 +1,9 @@
 -- Forks of a system, and their slacks.
-use Rattle.std.specs.Prelude.{◌≡◌, ℕ, ◌*◌, ◌<◌, ◌==◌, ℤ, pos, ◌+ℤ◌, ◌-ℤ◌, List, length, slice_index_or, if◌then◌else◌}
+use Rattle.std.specs.Prelude.{◌≡◌, ℕ, ◌<◌, ◌==◌, ℤ, List, length, slice_index_or, if◌then◌else◌}
 use Rattle.rule_system.specs.declared.rules.Rule.{Rule}
 use Rattle.rule_system.specs.Weights.{IsArrival, time_of}
 use Rattle.fork_slack.specs.declared.slacks.ForkOf.{ForkOf}
-use Rattle.fork_slack.specs.Slack.{HasBranches, slack_of}
+use Rattle.fork_slack.specs.Slack.{HasBranches, slack_between, slack_of}
 
 -- a fork of three of so many events, its margin and its offset within the limits
 abbrev pub IsFork : ℕ → ForkOf → Type 0
@@ -17,14 +17,13 @@ no_fork = record { root = 0; fast = 0; slow = 0; margin = 0; offset = 0 }
 abbrev pub fork_at : List ForkOf → ℕ → ForkOf
 fork_at forks n = slice_index_or forks n no_fork
 
--- by how much the slow event, a number of periods later, comes after the fast one, beyond the margin:
--- both by their arrivals, over all walks, from the fork's own root
+-- the slack of a fork by the arrivals of its slow and its fast event, over all walks, from the fork's own root
 pub record IsSlack (top bottom : ℕ) (rules : List Rule) (fork : ForkOf) (slack : ℤ) : Type 0 where
   pub slow : ℤ
   pub fast : ℤ
   pub slow_arrives : IsArrival top bottom rules fork.root fork.slow slow
   pub fast_arrives : IsArrival top bottom rules fork.root fork.fast fast
-  pub is_slack : slack ≡ ((slow -ℤ fast) +ℤ pos (top * fork.offset)) -ℤ pos (bottom * fork.margin)
+  pub is_slack : slack ≡ slack_between top bottom fork slow fast
 
 -- for each fork, in order, its slack
 abbrev pub AreSlacks : ℕ → ℕ → List Rule → List ForkOf → List ℤ → Type 0
