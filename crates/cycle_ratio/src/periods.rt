@@ -11,7 +11,7 @@ use crate::raising::{raise_cycle, sums_of};
 use crate::search::{Proposal, numbers_of, propose};
 use cyc_num::Ratio;
 use first_cycle::first_cycle;
-use potentials::search::{Reduced, Scale};
+use potentials::search::{Places, Reduced, Scale};
 use rule_system::{Cycle, System};
 use std::alloc::{AllocError, Global};
 
@@ -62,13 +62,13 @@ pub fn greatest_from(alloc: Global, system: &System, start: &[u32]) -> Result<Fo
     } = propose(alloc, system, start, ratio)?;
     if !is_short_cycle(system, &cycle) {
         let first = any_cycle(alloc, system)?;
-        return raised_from(alloc, system, first);
+        return raised_from(alloc, system, &places, first);
     }
     let cycle = Cycle::of(cycle);
     let period = period_of(system, cycle.list());
     let numbers = numbers_of(alloc, &places, &heights)?;
     if !shows_no_gain(system, period, &numbers) {
-        return raised_from(alloc, system, cycle);
+        return raised_from(alloc, system, &places, cycle);
     }
     let reduced = Reduced::of(alloc, &places, Scale::of(period), heights.values())?;
     Ok(Found {
@@ -89,7 +89,12 @@ fn ratio_of(system: &System, start: &[u32]) -> Option<Ratio>
 }
 
 /// The period and a cycle that attains it, by cycles of greater and greater ratios from one on.
-fn raised_from(alloc: Global, system: &System, first: Cycle) -> Result<Found, AllocError>
+fn raised_from(
+    alloc: Global,
+    system: &System,
+    places: &Places,
+    first: Cycle,
+) -> Result<Found, AllocError>
     requires live { IsLive system.now.rules }
     requires cycle { IsShortCycle system.now.events system.now.rules first }
     ensures period { IfOk result (λ found. IsPeriod system.now.rules found.period.top found.period.bottom) }
@@ -99,7 +104,7 @@ fn raised_from(alloc: Global, system: &System, first: Cycle) -> Result<Found, Al
 {
     let cycle = raise_cycle(alloc, system, first)?;
     let period = period_of(system, cycle.list());
-    let reduced = Reduced::at(alloc, system, period)?;
+    let reduced = Reduced::between(alloc, places, period)?;
     Ok(Found {
         period,
         cycle,

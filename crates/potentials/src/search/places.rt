@@ -5,10 +5,9 @@ use crate::search::order::order_of;
 use rule_system::System;
 use std::alloc::{AllocError, Global};
 
-/// The events by place, and the rules into and out of each place.
+/// The place of each event, and the rules into and out of each place.
 #[derive(Drop)]
 pub struct Places {
-    order: Vec<u32>,
     places: Vec<u32>,
     into: Links,
     out_of: Links,
@@ -22,7 +21,6 @@ impl Places {
         let into = links_into(alloc, system, &places)?;
         let out_of = links_out_of(alloc, system.events(), &into)?;
         Ok(Places {
-            order,
             places,
             into,
             out_of,
@@ -31,12 +29,7 @@ impl Places {
 
     /// How many places there are.
     pub fn count(&self) -> u32 {
-        u32::try_from(self.order.len()).unwrap_or(0)
-    }
-
-    /// The event at each place.
-    pub fn order(&self) -> &[u32] {
-        &self.order
+        u32::try_from(self.places.len()).unwrap_or(0)
     }
 
     /// The place of each event.

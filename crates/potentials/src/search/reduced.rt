@@ -32,21 +32,26 @@ pub struct Reduced {
 impl Reduced {
     /// The losses of a system's rules at a ratio, against heights that are looked for here.
     pub fn at(alloc: Global, system: &System, ratio: Ratio) -> Result<Reduced, AllocError> {
-        let scale = Scale::of(ratio);
         let places = Places::of(alloc, system)?;
+        Reduced::between(alloc, &places, ratio)
+    }
+
+    /// The same of the rules between places.
+    pub fn between(alloc: Global, places: &Places, ratio: Ratio) -> Result<Reduced, AllocError> {
+        let scale = Scale::of(ratio);
         let count = places.count() as usize;
         let mut heights = Heights::zeros(alloc, count)?;
         let mut pending = Pending::none_of(alloc, count)?;
-        heights.sweep(&places, scale, &mut pending);
+        heights.sweep(places, scale, &mut pending);
         let most = places.rules_into().all().len().saturating_mul(2);
-        if !heights.pass(&places, scale, &mut pending, most) {
+        if !heights.pass(places, scale, &mut pending, most) {
             'phases: for _ in 0..PHASES {
-                if heights.spread(alloc, &places, scale)? {
+                if heights.spread(alloc, places, scale)? {
                     break;
                 }
             }
         }
-        Reduced::of(alloc, &places, scale, heights.values())
+        Reduced::of(alloc, places, scale, heights.values())
     }
 
     /// The losses of the rules between places against heights of the places.
