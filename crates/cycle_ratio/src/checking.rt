@@ -1,5 +1,5 @@
 //! The tests that a proposed cycle and proposed numbers have to pass.
-ghost use Rattle.std.specs.Prelude.{◌≡◌, ◌≤◌, All, true};
+ghost use Rattle.std.specs.Prelude.{◌≡◌, ◌≤◌, All, true, false};
 ghost use Rattle.cyc_num.specs.Ratio.{IsSmallRatio};
 ghost use Rattle.cyc_num.specs.Within.{LiesWithin};
 ghost use Rattle.rule_system.specs.Weights.{HasNoGain};
@@ -16,7 +16,8 @@ const WIDEST: i64 = 40_000_000_000_000_000;
 
 /// Whether rule numbers make a cycle of at most as many rules as there are events.
 pub fn is_short_cycle(system: &System, walk: &[u32]) -> bool
-    ensures { result ≡ true → IsShortCycle system.now.events system.now.rules walk.now }
+    ensures cycle { result ≡ true → IsShortCycle system.now.events system.now.rules walk.now }
+    ensures none { result ≡ false → IsShortCycle system.now.events system.now.rules walk.now → ⊥ }
 {
     walk.len() <= system.events() as usize && is_cycle(system.rules(), walk)
 }
