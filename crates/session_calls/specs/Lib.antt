@@ -1,3 +1,4 @@
 pub mod States
 pub mod Ahead
 pub mod Turns
+pub mod Wants

@@ -6,6 +6,8 @@ ghost use Rattle.session_script.specs.declared.calls.Call.{Call};
 ghost use Rattle.query_replies.specs.Readings.{Analyses};
 ghost use Rattle.session_calls.specs.States.{rows, Knows, act_on};
 ghost use Rattle.session_calls.specs.Turns.{IsReady, Turned, noted_act};
+ghost use Rattle.session_calls.specs.Wants.{WantsHandle};
+ghost use Rattle.session_calls.specs.declared.session.Taken.TheVariants.{Memory};
 
 use super::{Ready, Session, Taken};
 use pinned_reader::Row;
@@ -19,6 +21,7 @@ impl Session {
         requires room { 0 < hall.old.room }
         requires ready { (all : Analyses) × (c : Call) × IsReady all self.now c ready }
         requires known { Knows (rows hall.old) self.now }
+        ensures memory { result ≡ Memory → WantsHandle ready }
         ensures entry { (row : Option RowState) × (hall.new ≡ noted hall.old self.now.number (noted_act self.now ready) row) }
         ensures turned { (all : Analyses) (c : Call) → hall.old.base.library ≡ all.library → IsReady all self.now c ready →
             Turned self.now (act_on all (rows hall.old) self.now c) hall.old hall.new ready result }
@@ -34,6 +37,7 @@ impl Session {
         requires room { 0 < hall.old.room }
         requires ready { (all : Analyses) × (c : Call) × IsReady all self.now c ready }
         requires known { Knows (rows hall.old) self.now }
+        ensures memory { result ≡ Memory → WantsHandle ready }
         ensures entry { (row : Option RowState) × (hall.new ≡ noted hall.old self.now.number (noted_act self.now ready) row) }
         ensures turned { (all : Analyses) (c : Call) → hall.old.base.library ≡ all.library → IsReady all self.now c ready →
             Turned self.now (act_on all (rows hall.old) self.now c) hall.old hall.new ready result }

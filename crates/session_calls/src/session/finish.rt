@@ -9,6 +9,7 @@ ghost use Rattle.pinned_reader.specs.Rows.{RowState};
 ghost use Rattle.session_calls.specs.Ahead.{ahead_in, Moved};
 ghost use Rattle.session_calls.specs.States.{SessionState, holding_of};
 ghost use Rattle.session_calls.specs.Turns.{IsActOf, IsNext, IsTaken, Finishes};
+ghost use Rattle.session_calls.specs.Wants.{WantsMemory};
 
 use super::{Held, Session, Taken};
 use edit_log::{EditFault, apply};
@@ -21,11 +22,12 @@ use version_store::Pin;
 
 impl Session {
     /// The reply to what was taken, and the session with it. A rebase of a draft costs a copy of the row's netlist and the draft on it.
-    /// `AllocError` only for want of memory, and then the session is as it was.
+    /// `AllocError` only for want of memory: where it was told in the turn, or of such a copy; and then the session is as it was.
     pub fn finish(&mut self, taken: Taken) -> Result<Reply, AllocError>
         requires { (m : Act) × IsActOf self.old taken m }
         ensures finishes { (m : Act) (rs : List RowState) → IsTaken self.old m rs taken → IfOk result (λ r. Finishes self.old self.new m rs r) }
         ensures unchanged { OnErr result (self.new ≡ self.old) }
+        ensures memory { OnErr result (WantsMemory taken) }
     {
         match taken {
             Taken::Pass(reply) => Ok(reply),
