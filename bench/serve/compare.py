@@ -5,8 +5,9 @@ The order that the program prints has to be one, with each session as often as i
 what the plain machine writes along that order: no order is expected. Where files are refused, status and line have to be the machine's.
 It prints one line of counts, and ends with 1 at the first difference, of which it prints the seed, the words and both texts.
 
-Use: compare.py [PROGRAM] [SEEDS] [FIRST]
-PROGRAM is the built program (crates/cyclone/out/cyclone if left out), SEEDS how many are drawn (300), FIRST the first seed (0).
+Use: compare.py [PROGRAM] [SEEDS] [FIRST] [harsh]
+PROGRAM is the built program (crates/cyclone/out/cyclone if left out), SEEDS how many are drawn (300), FIRST the first seed (0). With the
+last word the cases are those of harsh.py, else those of draw.py.
 """
 import collections
 import os
@@ -18,6 +19,7 @@ import tempfile
 sys.dont_write_bytecode = True
 
 import draw
+import harsh
 import machine
 import netlists
 
@@ -51,16 +53,19 @@ def first_difference(told, right):
 
 
 def counts_of(text):
+    """How often each reply, and each refusal by its first word, was told."""
     counts = collections.Counter()
     for line in text.split("\n"):
         words = line.split(" ")
         if words[0].isdigit() and len(words) > 1 and words[1] in REPLIES:
             counts[words[1]] += 1
+            if words[1] == "refused":
+                counts["refused: " + words[2]] += 1
     return counts
 
 
-def compare(program, seed, folder, counts):
-    case = draw.draw(seed)
+def compare(program, seed, folder, counts, drawn):
+    case = drawn(seed)
     case.write(folder)
     workers = random.Random(seed).choice([None, 1, 2, 3, 4, 8, 16, 63, 64])
     words = ["serve"] + case.names()[:2] + ([] if workers is None else ["--workers", str(workers)]) + case.names()[2:]
@@ -81,13 +86,15 @@ def compare(program, seed, folder, counts):
 def main(words):
     program = os.path.abspath(words[0]) if words else os.path.join(TOP, "crates", "cyclone", "out", "cyclone")
     seeds, first = (int(words[at]) if len(words) > at else other for at, other in ((1, 300), (2, 0)))
+    drawn = harsh.draw_case if words[3:] == ["harsh"] else draw.draw
     counts = collections.Counter()
     for seed in range(first, first + seeds):
         with tempfile.TemporaryDirectory() as folder:
-            compare(program, seed, folder, counts)
+            compare(program, seed, folder, counts, drawn)
     told = ", ".join("%s %d" % (name, counts[name]) for name in REPLIES)
-    print("seeds %d: served %d, of them in turn %d, refused files %d; replies: %s: no difference" % (
-        seeds, counts["served"], counts["orders in turn"], counts["faulty"], told))
+    refusals = ", ".join("%s %d" % (name[9:], counts[name]) for name in sorted(counts) if name.startswith("refused: "))
+    print("seeds %d: served %d, of them in turn %d, refused files %d; replies: %s; refusals: %s: no difference" % (
+        seeds, counts["served"], counts["orders in turn"], counts["faulty"], told, refusals))
 
 
 if __name__ == "__main__":

@@ -1,4 +1,5 @@
-"""Libraries, netlists and edits by plain means, from docs/FORMATS.md: lines and words, what each edit makes of a netlist, netlist files.
+"""Libraries, netlists and edits by plain means, from docs/FORMATS.md: lines and words, what each edit makes of a netlist, netlist files, and
+the canonical lines of a netlist.
 
 The library must be a legal one: its faults are not told here. Files are read as Latin-1, so that each byte is one character.
 """
@@ -260,3 +261,14 @@ def netlist_of(text, editor):
         except Refused as refused:
             raise Refused("netlist line %d %s" % (number, refused)) from None
     return netlist
+
+
+def canonical_lines(library, netlist):
+    lines = ["net " + name for name in netlist.nets] + ["const " + name for name in netlist.consts]
+    for inst in netlist.insts.values():
+        lines.append(" ".join(["inst", inst.name, inst.cell] + ["%s=%s" % (pin, inst.pins[pin]) for pin in library[inst.cell].pins()]))
+    for inst in netlist.insts.values():
+        lines += ["delay %s %s %d %d" % (inst.name, pin, *inst.own[pin]) for pin in library[inst.cell].sources() if pin in inst.own]
+    lines += ["tick %s %s %d" % (*pair, count) for pair, count in netlist.ticks.items()]
+    lines += ["root " + netlist.root] if netlist.root else []
+    return lines + ["fork %s %s %s %s %d %d" % (name, *fork) for name, fork in netlist.forks.items()]
