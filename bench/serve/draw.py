@@ -388,7 +388,8 @@ def draw_full(rng):
         for at in range(900 // sessions):
             edits = ["delay %s %s %d %d" % (inst[1], pin, draw_delay(rng), draw_delay(rng)), "const c.%d" % at]
             script += [rng.choice(edits), "rebase", "publish"] + rng.choice([[], [], ["drop"]])
-        scripts.append(script[:machine.MOST_CALLS // sessions - 4] + ["period", "drop", "pin 255", "pin 256"])
+        stale = ["pin 0", "const c.stale", "publish", "drop", "pin 255", "const c.full", "publish", "pin 256"]
+        scripts.append(script[:machine.MOST_CALLS // sessions - 10] + ["period", "drop"] + stale)
     return Case("full", library, text_of(lines), [text_of(script) for script in scripts])
 
 
@@ -399,9 +400,11 @@ def draw_limits(rng):
     events = ["n%d%s" % (at, edge) for at in range(40) for edge in EDGES]
     rng.shuffle(events)
     forks = ["fork g%d %s n0+ n1- 0 0" % (at, events[at]) for at in range(68)] + ["fork h%d %s n0+ n1- 0 0" % (at, events[at % 3]) for at in range(200)]
-    scripts = [["pin"] + forks + ["publish", "slack g0", "fork last n0+ n0+ n0+ 0 0", "delfork g1", "fork last %s n0+ n0+ 0 0" % events[70],
+    scripts = [["pin"] + forks + ["publish", "slack g0", "fork last n0+ n0+ n0+ 0 0", "fork g0 n0+ n0+ n0+ 0 0", "fork last Q+ n0+ n0+ 0 0",
+                                  "fork last n0+ n0+ n0+ 0 16", "fork last %s n0+ n0+ 0 0" % events[70], "delfork g1", "fork last %s n0+ n0+ 0 0" % events[70],
                                   "fork x.last %s n0+ n0+ 0 0" % events[0]],
-               ["pin"] + ["const j%d" % at for at in range(7)] + ["delnet k0", "const j9", "const j10", "rebase", "publish", "draft"],
+               ["pin"] + ["const j%d" % at for at in range(7)] + ["const k0", "const n0", "const k-", "net k0", "delnet k0", "const j9", "const j10", "rebase",
+                                                                  "publish", "draft"],
                ["pin"] + forks[30:66] + ["rebase"] + forks[66:] + ["publish", "rebase", "publish", "draft", "period"]]
     return Case("limits", library, text_of(lines), [text_of(script) for script in scripts])
 
@@ -409,7 +412,8 @@ def draw_limits(rng):
 def draw_nets(rng):
     """As many nets as there may be, and more."""
     lines = ring_lines(netlists.MOST_NETS - 2)
-    scripts = [["pin", "net a", "net b", "net c", "publish", "delnet a", "net c", "inst x BUF A=n0 Z=c"], ["pin", "draft", "net a", "rebase"]]
+    scripts = [["pin", "net a", "net b", "net c", "net n0", "net a", "net a-", "const c", "net c", "publish", "delnet a", "net d", "inst x BUF A=n0 Z=d"],
+               ["pin", "draft", "net a", "rebase"]]
     return Case("nets", draw_library(rng), text_of(lines), [text_of(script) for script in scripts])
 
 
