@@ -9,6 +9,7 @@ use Rattle.netlist_model.specs.ArcRules.{HaveOneDriver}
 use Rattle.netlist_model.specs.Circuit.{last_of, drives, driver_of, is_net}
 use Rattle.netlist_model.specs.Deletions.{moved_up, ref_after, inst_after, is_same, is_pinned}
 use Rattle.netlist_model.specs.Keyed.{told_at, place_after}
+use Rattle.netlist_model.specs.Uses.{moved_back}
 use Rattle.netlist_model.specs.declared.parts.Instance.{Instance}
 use Rattle.netlist_model.specs.declared.parts.NetRef.{NetRef}
 use Rattle.netlist_model.specs.declared.parts.NetRef.TheVariants.{Net, Const}
@@ -37,10 +38,6 @@ pub told_past : (told : List (Option ℕ)) (n : ℕ) → length told ≤ n → t
 told_past [] n h = refl
 told_past (t ∷ ts) zero h = absurd (omega arith)
 told_past (t ∷ ts) (suc n) h = told_past ts n (omega arith)
-
--- where an entry stood, before the one at `gone` was away
-abbrev pub moved_back : ℕ → ℕ → ℕ
-moved_back gone n = if nat_lt n gone then n else suc n
 
 told_removed : (told : List (Option ℕ)) (gone n : ℕ) → told_at (remove told gone) n ≡ told_at told (moved_back gone n)
 told_removed [] zero n = refl
@@ -106,6 +103,30 @@ driver_removed insts gone n one low =
         none ∙ sym (ap (place_after gone) here ∙ rw (eq_refl gone) refl)
     by x at false e =
         position_without (drives n) insts gone x at e ∙ sym (place_other gone (driver_of insts n) (other x at e))
+
+-- the last instance away: the places of the others stay
+pub driver_last : (insts : List Instance) (gone n : ℕ) (x : Instance) → HaveOneDriver insts → slice_get insts gone ≡ Some x → length insts ≡ gone + 1
+    → cond (is_net n (last_of x.pins)) None (driver_of insts n) ≡ driver_of (remove insts gone) n
+driver_last insts gone n x one at end = by (drives n x) refl ∙ sym (driver_removed insts gone n one (omega (arith, end)))
+  where
+    other : drives n x ≡ false → (k : ℕ) → driver_of insts n ≡ Some k → k ≢ gone
+    other e k is same =
+        let (y, at_k, passed) = passing (drives n) insts k is in
+        let g : Some y ≡ Some x = sym at_k ∙ ap (slice_get insts) same ∙ at in
+        let f : true ≡ false = sym passed ∙ ap (drives n) (some_same y x g) ∙ e in cc
+
+    kept : drives n x ≡ false → (o : Option ℕ) → driver_of insts n ≡ o → o ≡ place_after gone o
+    kept e None is = refl
+    kept e (Some k) is =
+        let d = other e k is in
+        let low : k < gone = omega (arith, position_within (drives n) insts k is, end, d) in
+        let apart : nat_eq k gone ≡ false = grind (arith, nat_tests) in
+        let below : nat_lt gone k ≡ false = grind (arith, nat_tests) in
+        rw (apart, below) refl
+
+    by : (b : Bool) → drives n x ≡ b → cond b None (driver_of insts n) ≡ place_after gone (driver_of insts n)
+    by true e = sym (ap (place_after gone) (one.one gone n x at e) ∙ rw (eq_refl gone) refl)
+    by false e = kept e (driver_of insts n) refl
 
 -- ---- a net or a constant away
 

@@ -20,3 +20,6 @@ pub mod Deleted
 pub mod Moved
 pub mod Undone
 pub mod WiredPins
+pub mod UseLemmas
+pub mod PinLemmas
+pub mod TickLemmas

@@ -10,7 +10,7 @@ use Rattle.std.proofs.lemmas.Option.{slice_get_past}
 use Rattle.netlist_model.specs.Blocks.{pair_eq}
 use Rattle.netlist_model.specs.Keyed.{IsNumbered, event_before, key_of, pair_cmp, told_of}
 use Rattle.netlist_model.proofs.BlockLemmas.{same_test}
-use Rattle.netlist_model.proofs.DriverLemmas.{moved_back}
+use Rattle.netlist_model.specs.Uses.{moved_back}
 
 -- the entries of a table
 abbrev pub Entries : Type 0 → Type 0

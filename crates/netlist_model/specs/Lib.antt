@@ -10,4 +10,5 @@ pub mod Expansion
 pub mod Whole
 pub mod Sound
 pub mod Keyed
+pub mod Uses
 pub mod Wired

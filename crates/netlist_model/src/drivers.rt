@@ -1,7 +1,10 @@
 // The drivers of nets, by the nets' places.
-ghost use Rattle.std.specs.Prelude.{◌≡◌, ◌<◌, ◌≤◌, ℕ, None, length, map, remove, slice_set, if◌then◌else◌, nat_lt, OnOk};
+ghost use Rattle.std.specs.Prelude.{◌≡◌, ◌<◌, ◌≤◌, ℕ, None, cond, length, map, nat_eq, remove, slice_set, if◌then◌else◌, nat_lt, OnOk};
+ghost use Rattle.netlist_model.specs.Circuit as circuit;
+ghost use Rattle.netlist_model.specs.Circuit.{is_net};
 ghost use Rattle.netlist_model.specs.Keyed.{place_after, told_at};
 
+use crate::parts::NetRef;
 use std::alloc::AllocError;
 
 /// Makes room to tell the driver of a net. What is told stays.
@@ -43,6 +46,33 @@ pub(crate) fn close_up(drivers: &mut [Option<usize>], gone: usize)
 {
     for driver in drivers.iter_mut() {
         *driver = moved(gone, *driver);
+    }
+}
+
+/// Tells that an instance with these pins drives no net any longer.
+pub(crate) fn release(drivers: &mut Vec<Option<usize>>, pins: &[NetRef])
+    ensures { (n : ℕ) → told_at drivers.new.items n ≡ cond (is_net n (circuit.last_of pins.now)) None (told_at drivers.old.items n) }
+{
+    match last_pin(pins) {
+        Some(NetRef::Net(net)) => free(drivers, net as usize),
+        Some(NetRef::Const(_)) => {}
+        None => {}
+    }
+}
+
+/// The last of the pins.
+pub(crate) fn last_pin(pins: &[NetRef]) -> Option<NetRef>
+    ensures { result ≡ circuit.last_of pins.now }
+{
+    pins.last().copied()
+}
+
+/// Tells that a net has no driver.
+fn free(drivers: &mut Vec<Option<usize>>, net: usize)
+    ensures { (n : ℕ) → told_at drivers.new.items n ≡ cond (nat_eq n net) None (told_at drivers.old.items n) }
+{
+    if net < drivers.len() {
+        drivers[net] = None;
     }
 }
 

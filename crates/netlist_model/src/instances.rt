@@ -7,22 +7,26 @@ ghost use Rattle.netlist_model.specs.ArcRules.{HaveOneDriver};
 ghost use Rattle.netlist_model.specs.Circuit.{inst_of, driver_of, last_of};
 ghost use Rattle.netlist_model.specs.Deletions as deletions;
 ghost use Rattle.netlist_model.specs.Deletions.{inst_after};
+ghost use Rattle.netlist_model.specs.Keyed.{told_at};
 ghost use Rattle.netlist_model.specs.Statements.{with_delay, with_pin};
+ghost use Rattle.netlist_model.specs.Uses.{TellsPins, uses_of};
 ghost use Rattle.netlist_model.specs.declared.parts.Instance.{Instance};
 ghost use Rattle.netlist_model.specs.declared.parts.NetRef.TheVariants.{Net};
 
-use crate::drivers::{close_up, forget, reach};
+use crate::drivers::{close_up, forget, reach, release};
 use crate::keys::Keys;
 use crate::parts::{Delay, Delays, Instance, NetRef};
+use crate::uses::PinUses;
 use std::alloc::{AllocError, Global};
 use std::marker::Model;
 
-/// Instances in order, with their places by name and by the net that they drive.
+/// Instances in order, with their places by name and by the net that they drive, and how many pins are on each net.
 #[derive(Drop)]
 pub(crate) struct Instances {
     items: Vec<Instance>,
     names: Keys,
     drivers: Vec<Option<usize>>,
+    uses: PinUses,
 }
 
 impl Model for Instances {
@@ -36,9 +40,11 @@ impl Model for Instances {
     ghost use Rattle.std.specs.Prelude.{◌≡◌, ℕ, map};
     ghost use Rattle.netlist_model.specs.Circuit.{driver_of};
     ghost use Rattle.netlist_model.specs.Keyed.{told_at};
+    ghost use Rattle.netlist_model.specs.Uses.{TellsPins, uses_of};
 
     ghost invariant = { λ s. (s.names ≡ map (λ i. i.name) s.items.items)
-        × ((n : ℕ) → told_at s.drivers.items n ≡ driver_of s.items.items n) };
+        × ((n : ℕ) → told_at s.drivers.items n ≡ driver_of s.items.items n)
+        × TellsPins s.uses (uses_of s.items.items) };
 }
 
 impl Instances {
@@ -49,6 +55,7 @@ impl Instances {
             items: Vec::new(alloc),
             names: Keys::empty(alloc),
             drivers: Vec::new(alloc),
+            uses: PinUses::empty(alloc),
         }
     }
 
@@ -90,6 +97,7 @@ impl Instances {
         self.names.push(instance.name.bytes())?;
         let at = self.items.len();
         self.drivers[net as usize] = Some(at);
+        self.uses.raise_all(instance.pins.list());
         let _ = self.items.push(instance);
         Ok(())
     }
@@ -112,8 +120,9 @@ impl Instances {
         ensures { self.new ≡ remove self.old at }
     {
         self.names.remove(at);
-        close_up(&mut self.drivers, at);
-        let _ = self.items.remove(at);
+        leave_driver(&mut self.drivers, &self.items, at);
+        let gone = self.items.remove(at);
+        self.uses.lower_all(gone.pins.list());
     }
 
     /// Puts an input of the instance at a place on another net or constant.
@@ -123,7 +132,10 @@ impl Instances {
         ensures { self.new ≡ with_pin self.old at pin to }
     {
         let instance = &mut self.items[at];
+        let from = pin_on(instance, pin);
         instance.pins.set(pin, to);
+        self.uses.raise(to);
+        self.uses.lower(from);
     }
 
     /// Puts the output of the instance at a place on a net that no other instance drives.
@@ -147,6 +159,8 @@ impl Instances {
         self.drivers[net as usize] = Some(at);
         let instance = &mut self.items[at];
         instance.pins.set(pin, NetRef::Net(net));
+        self.uses.raise(NetRef::Net(net));
+        self.uses.lower(NetRef::Net(old));
         Ok(())
     }
 
@@ -160,19 +174,24 @@ impl Instances {
         instance.delays = delays;
     }
 
-    /// Whether a pin is on the net or constant.
+    /// Whether a pin is on the net or constant. Where it is not known how many are, the instances are gone over.
     pub(crate) fn is_pinned(&self, to: NetRef) -> bool
         ensures { result ≡ list_any (deletions.is_pinned to) self.now }
     {
-        self.items.iter().any(|instance| is_pinned(to, instance))
+        match self.uses.count(to) {
+            Some(count) => count > 0,
+            None => any_pinned(to, &self.items),
+        }
     }
 
-    /// Moves up what the pins are on, once this net or constant, on which no pin is, is away.
+    /// Moves up what the pins are on, once this net or constant, on which no pin is, is away. The instances are gone
+    /// over only where a pin may be on a later one.
     pub(crate) fn leave(&mut self, gone: NetRef)
         requires { list_any (deletions.is_pinned gone) self.old ≡ false }
         ensures { self.new ≡ map (inst_after gone) self.old }
     {
-        leave_all(&mut self.items, gone);
+        move_up(&mut self.items, &self.uses, gone);
+        self.uses.leave(gone);
         match gone {
             NetRef::Net(net) => forget(&mut self.drivers, net as usize),
             NetRef::Const(_) => {}
@@ -188,12 +207,43 @@ impl Instances {
         let items = copies(*self.items.allocator(), &self.items)?;
         let names = self.names.copy()?;
         let drivers = Vec::from_slice(*self.drivers.allocator(), &self.drivers)?;
+        let uses = self.uses.copy()?;
         Ok(Instances {
             items,
             names,
             drivers,
+            uses,
         })
     }
+}
+
+/// Tells the drivers, once the instance at `gone` is away. Where it is the last, the places of the others stay.
+fn leave_driver(drivers: &mut Vec<Option<usize>>, items: &[Instance], gone: usize)
+    requires within { gone < length items.now }
+    requires told { (n : ℕ) → told_at drivers.old.items n ≡ driver_of items.now n }
+    requires driven { HaveOneDriver items.now }
+    ensures { (n : ℕ) → told_at drivers.new.items n ≡ driver_of (remove items.now gone) n }
+{
+    if gone == items.len() - 1 {
+        release(drivers, items[gone].pins.list());
+    } else {
+        close_up(drivers, gone);
+    }
+}
+
+/// What a pin of the instance is on.
+fn pin_on(instance: &Instance, pin: usize) -> NetRef
+    requires { pin < length instance.now.pins }
+    ensures { slice_get instance.now.pins pin ≡ Some result }
+{
+    instance.pins.list()[pin]
+}
+
+/// Whether a pin of the instances is on the net or constant.
+fn any_pinned(to: NetRef, items: &[Instance]) -> bool
+    ensures { result ≡ list_any (deletions.is_pinned to) items.now }
+{
+    items.iter().any(|instance| is_pinned(to, instance))
 }
 
 /// Whether a pin of the instance is on the net or constant.
@@ -213,6 +263,18 @@ fn is_same(a: NetRef, b: NetRef) -> bool
         (NetRef::Net(_), NetRef::Const(_)) => false,
         (NetRef::Const(_), NetRef::Net(_)) => false,
     }
+}
+
+/// Moves up what the pins are on. Where no pin is on anything behind what is away, nothing is to be done.
+fn move_up(items: &mut Vec<Instance>, uses: &PinUses, gone: NetRef)
+    requires tells { TellsPins uses.now (uses_of items.old.items) }
+    requires free { list_any (deletions.is_pinned gone) items.old.items ≡ false }
+    ensures { items.new.items ≡ map (inst_after gone) items.old.items }
+{
+    if uses.is_last(gone) {
+        return;
+    }
+    leave_all(items, gone);
 }
 
 fn leave_all(items: &mut [Instance], gone: NetRef)

@@ -22,6 +22,7 @@ mod netlist;
 mod pairs;
 mod parts;
 mod ticks;
+mod uses;
 mod whole;
 mod wiring;
 mod words;

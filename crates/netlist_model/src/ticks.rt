@@ -6,9 +6,11 @@ ghost use Rattle.netlist_model.specs.Blocks.{Grown};
 ghost use Rattle.netlist_model.specs.Deletions as deletions;
 ghost use Rattle.netlist_model.specs.Circuit.{is_between, tick_of};
 ghost use Rattle.netlist_model.specs.Expansion.{offset_of};
+ghost use Rattle.netlist_model.specs.Uses.{Tells, ends_of};
 
 use crate::pairs::{Pairs, Place};
 use crate::parts::{Tick, event_after};
+use crate::uses::Uses;
 use std::alloc::{AllocError, Global};
 use std::marker::Model;
 
@@ -16,12 +18,13 @@ use std::marker::Model;
 const BLOCK: usize = 1024;
 
 /// Ticks in order. They lie in blocks, so that one is taken away without a move of all that follow it.
-/// A pair of events finds the block of its tick, and the tick's count.
+/// A pair of events finds the block of its tick, and the tick's count. How many events of ticks are of each net is counted.
 #[derive(Drop)]
 pub(crate) struct Ticks {
     blocks: Vec<Vec<Tick>>,
     pairs: Pairs,
     count: usize,
+    uses: Uses,
 }
 
 impl Model for Ticks {
@@ -30,6 +33,7 @@ impl Model for Ticks {
     ghost use Rattle.netlist_model.specs.declared.parts.Tick.{Tick};
     ghost use Rattle.netlist_model.specs.Blocks.{IsIndexed, TellsCounts};
     ghost use Rattle.netlist_model.specs.Keyed.{told_of};
+    ghost use Rattle.netlist_model.specs.Uses.{Tells, ends_of};
 
     ghost Value = { List Tick };
 
@@ -37,7 +41,8 @@ impl Model for Ticks {
 
     ghost invariant = { λ t. (t.count ≡ length (flat_map (λ b. b) (map (λ b. b.items) t.blocks.items)))
         × IsIndexed (map (λ b. b.items) t.blocks.items) (λ s e. option_map (λ p. p.block) (told_of t.pairs s e))
-        × TellsCounts (flat_map (λ b. b) (map (λ b. b.items) t.blocks.items)) (λ s e. option_map (λ p. p.count) (told_of t.pairs s e)) };
+        × TellsCounts (flat_map (λ b. b) (map (λ b. b.items) t.blocks.items)) (λ s e. option_map (λ p. p.count) (told_of t.pairs s e))
+        × Tells t.uses (ends_of (flat_map (λ b. b) (map (λ b. b.items) t.blocks.items))) };
 }
 
 impl Ticks {
@@ -48,6 +53,7 @@ impl Ticks {
             blocks: Vec::new(alloc),
             pairs: Pairs::empty(alloc),
             count: 0,
+            uses: Uses::empty(alloc),
         }
     }
 
@@ -109,6 +115,8 @@ impl Ticks {
         let last = &mut self.blocks[block];
         let _ = last.push(tick);
         self.count = count;
+        self.uses.raise(tick.source / 2);
+        self.uses.raise(tick.target / 2);
         Ok(())
     }
 
@@ -122,22 +130,29 @@ impl Ticks {
         let at = place.block;
         let gone = take_from(&mut self.blocks[at], source, target);
         self.count -= gone;
+        self.uses.lower(source / 2, gone);
+        self.uses.lower(target / 2, gone);
     }
 
-    /// Whether an event of a tick is of the net.
+    /// Whether an event of a tick is of the net. Where it is not known how many are, the ticks are gone over.
     pub(crate) fn is_ticked(&self, net: u32) -> bool
         ensures { result ≡ list_any (deletions.is_ticked net) self.now }
     {
-        any_ticked(net, &self.blocks)
+        match self.uses.count(net) {
+            Some(count) => count > 0,
+            None => any_ticked(net, &self.blocks),
+        }
     }
 
-    /// Moves up the events, once a net that no tick is of is away.
+    /// Moves up the events, once a net that no tick is of is away. The ticks are gone over only where one may be of a
+    /// later net.
     pub(crate) fn leave(&mut self, gone: u32)
         requires { list_any (deletions.is_ticked gone) self.old ≡ false }
         ensures { self.new ≡ map (deletions.tick_after gone) self.old }
     {
         self.pairs.leave(gone);
-        leave_blocks(&mut self.blocks, gone);
+        move_up(&mut self.blocks, &self.uses, gone);
+        self.uses.leave(gone);
     }
 
     /// The same ticks in the same order.
@@ -148,6 +163,7 @@ impl Ticks {
             blocks: copies(*self.blocks.allocator(), &self.blocks)?,
             pairs: self.pairs.copy()?,
             count: self.count,
+            uses: self.uses.copy()?,
         })
     }
 }
@@ -201,6 +217,18 @@ fn leave_block(block: &mut Vec<Tick>, gone: u32)
     ensures { block.new.items ≡ map (deletions.tick_after gone) block.old.items }
 {
     leave_ticks(block, gone);
+}
+
+/// Moves up the events. Where no tick is of a net behind the one that is away, nothing is to be done.
+fn move_up(blocks: &mut Vec<Vec<Tick>>, uses: &Uses, gone: u32)
+    requires tells { Tells uses.now (ends_of (flat_map (λ b. b) (map (λ b. b.items) blocks.old.items))) }
+    requires free { list_any (deletions.is_ticked gone) (flat_map (λ b. b) (map (λ b. b.items) blocks.old.items)) ≡ false }
+    ensures { map (λ b. b.items) blocks.new.items ≡ map (map (deletions.tick_after gone)) (map (λ b. b.items) blocks.old.items) }
+{
+    if uses.is_last(gone) {
+        return;
+    }
+    leave_blocks(blocks, gone);
 }
 
 fn leave_blocks(blocks: &mut [Vec<Tick>], gone: u32)

@@ -11,6 +11,7 @@ ghost use Rattle.netlist_model.specs.Statements as spec;
 ghost use Rattle.netlist_model.specs.declared.parts.NetRef.TheVariants.{Net, Const};
 
 use super::{Netlist, find_cell, inst_cell};
+use crate::drivers::last_pin;
 use crate::faults::StatementFault;
 use crate::parts::{Delays, Instance, NetRef, event_after};
 use crate::wiring::{no_delays, pin_at, ref_of};
@@ -257,12 +258,6 @@ fn output_net(instance: &Instance) -> u32
         Some(NetRef::Const(_)) => 0,
         None => 0,
     }
-}
-
-fn last_pin(pins: &[NetRef]) -> Option<NetRef>
-    ensures { result ≡ last_of pins.now }
-{
-    pins.last().copied()
 }
 
 /// Whether the cells have the same input names in the same order and the same output name.

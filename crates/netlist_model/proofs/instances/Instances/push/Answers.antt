@@ -4,6 +4,9 @@ use Rattle.netlist_model.specs.Circuit.{inst_of, driver_of}
 use Rattle.netlist_model.specs.Keyed.{told_at}
 use Rattle.netlist_model.specs.declared.parts.Instance.{Instance}
 use Rattle.netlist_model.proofs.DriverLemmas.{told_set}
+use Rattle.std.proofs.lemmas.List.Sums.{sum_by_push}
+use Rattle.netlist_model.specs.Uses.{pins_on, uses_of}
+use Rattle.netlist_model.proofs.UseLemmas.{pins_same}
 use Rattle.netlist_model.proofs.Tables.{driven_push, named_push, place_among, pushed_of}
 use Rattle.netlist_model.proofs.instances.Instances.push.Goals as goal
 
@@ -25,4 +28,5 @@ invariant_of-self-2 c =
       driven_push old c.args.instance c.args.net (told_at c.self.inside.drivers.items) _ c.requires.output free c.self.invariant.1
           (λ n. told_set c.reach.new.drivers.items c.args.net n (Some c.len-at.result) c.in_ok-reach.ensures.room
           ∙ ap (cond (nat_eq c.args.net n) (Some c.len-at.result)) (c.reach.ensures.told n) ∙ ap (λ k. cond (nat_eq c.args.net n) (Some k) (told_at c.self.inside.drivers.items n)) counted),
+      pins_same _ _ _ (λ r. omega (arith, sum_by_push (λ (i : Instance). pins_on r i.pins) old c.args.instance, ap (pins_on r) c.list.ensures)) (c.raise_all.ensures (uses_of old) c.self.invariant.2),
     )

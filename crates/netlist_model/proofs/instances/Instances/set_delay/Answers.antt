@@ -1,7 +1,9 @@
-use Rattle.std.proofs.Common.{◌≡◌, refl, ap, ◌∙◌, get_or}
+use Rattle.std.proofs.Common.{◌≡◌, ◌<◌, List, length, subst, sym, refl, ap, ◌∙◌, get_or}
 use Rattle.std.proofs.lemmas.Option.{get_or_from_slice_get}
 use Rattle.netlist_model.specs.declared.parts.Instance.{Instance}
 use Rattle.netlist_model.proofs.Places.{stands}
+use Rattle.netlist_model.proofs.PinLemmas.{uses_kept}
+use Rattle.netlist_model.proofs.UseLemmas.{pins_same}
 use Rattle.netlist_model.proofs.Tables.{named_set, driven_set}
 use Rattle.netlist_model.proofs.instances.Instances.set_delay.Goals as goal
 
@@ -9,6 +11,7 @@ pub invariant_of-self : goal.invariant_of-self
 invariant_of-self c = (
   named_set (λ (i : Instance). i.name) c.self.inside.items.items c.args.at _ c.index_mut-instance.result.now _ c.self.invariant.0 (ap (λ (i : Instance). i.name) c.index_mut-instance.ensures.value),
   driven_set c.self.inside.items.items c.args.at _ c.index_mut-instance.result.now _ c.self.invariant.1 (ap (λ (i : Instance). i.pins) c.index_mut-instance.ensures.value),
+  pins_same _ _ _ (λ r. sym (uses_kept c.self.inside.items.items c.args.at _ c.index_mut-instance.result.now r (subst (λ (xs : List Instance). c.args.at < length xs) (sym c.self.view_is) c.requires.within) (ap (λ (i : Instance). i.pins) c.index_mut-instance.ensures.value))) c.self.invariant.2,
 )
 
 pub returns : goal.returns

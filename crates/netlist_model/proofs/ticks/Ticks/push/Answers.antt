@@ -9,6 +9,9 @@ use Rattle.netlist_model.specs.Keyed.{told_of}
 use Rattle.netlist_model.specs.declared.pairs.Place.{Place}
 use Rattle.netlist_model.proofs.BlockLemmas.{Block, grown_flat, grown_index, index_same, put_flat, put_in, put_index, has_tick, none_of, lists, flat}
 use Rattle.netlist_model.proofs.CountLemmas.{looked_up, told_push, told_same}
+use Rattle.std.proofs.lemmas.List.Sums.{sum_by_push}
+use Rattle.netlist_model.specs.Uses.{ends_of, ends_on}
+use Rattle.netlist_model.proofs.UseLemmas.{tells_same}
 use Rattle.netlist_model.proofs.Tables.{pushed_of}
 use Rattle.netlist_model.proofs.ticks.Ticks.push.Goals as goal
 
@@ -18,6 +21,7 @@ invariant_of-self c =
       c.self.invariant.0 ∙ ap length (sym (grown_flat _ _ grown)),
       grown_index _ _ _ grown c.self.invariant.1,
       told_same _ _ _ _ c.self.invariant.2 (grown_flat _ _ grown) (λ s t. refl),
+      tells_same _ _ _ (λ n. ap (λ ts. ends_of ts n) (sym (grown_flat _ _ grown))) c.self.invariant.3,
     )
 
 pub invariant_of-self-in_err-insert : goal.invariant_of-self-in_err-insert
@@ -26,6 +30,7 @@ invariant_of-self-in_err-insert c =
       c.self.invariant.0 ∙ ap length (sym (grown_flat _ _ grown)),
       index_same _ _ _ (grown_index _ _ _ grown c.self.invariant.1) (λ s t. ap (option_map (λ (p : Place). p.block)) (c.in_err-insert.ensures.err s t)),
       told_same _ _ _ _ c.self.invariant.2 (grown_flat _ _ grown) (λ s t. ap (option_map (λ (p : Place). p.count)) (c.in_err-insert.ensures.err s t)),
+      tells_same _ _ _ (λ n. ap (λ ts. ends_of ts n) (sym (grown_flat _ _ grown))) c.self.invariant.3,
     )
 
 pub invariant_of-self-2 : goal.invariant_of-self-2
@@ -53,6 +58,7 @@ invariant_of-self-2 c =
           (λ u w. looked_up (λ (p : Place). p.block) _ (Some place) (old u w) _ (c.in_ok-insert.ensures.ok u w)),
       rw flat_is (told_push (flat before) tick (λ s t. option_map (λ (p : Place). p.count) (old s t)) _ c.self.invariant.2 fresh
           (λ u w. looked_up (λ (p : Place). p.count) _ (Some place) (old u w) _ (c.in_ok-insert.ensures.ok u w))),
+      rw flat_is (tells_same _ _ _ (λ n. omega (arith, sum_by_push (ends_on n) (flat before) tick)) (c.raise-2.ensures _ (c.raise.ensures (ends_of (flat before)) c.self.invariant.3))),
     )
 
 pub returns-clause-ok : goal.returns-clause-ok

@@ -4,6 +4,8 @@ use Rattle.netlist_model.specs.Circuit.{is_between}
 use Rattle.netlist_model.specs.declared.pairs.Place.{Place}
 use Rattle.netlist_model.proofs.BlockLemmas.{lists, flat, place_in, taken_index, taken_flat, taken_length, none_taken}
 use Rattle.netlist_model.proofs.CountLemmas.{looked_up, told_remove}
+use Rattle.netlist_model.proofs.TickLemmas.{ends_taken}
+use Rattle.netlist_model.proofs.UseLemmas.{tells_same}
 use Rattle.netlist_model.proofs.ticks.Ticks.remove.Goals as goal
 
 pub returns-in_default : goal.returns-in_default
@@ -35,6 +37,7 @@ invariant_of-self-2 c =
           (λ u w. looked_up (λ (p : Place). p.block) _ None (told_of c.self.inside.pairs u w) _ (c.remove.ensures.updates u w)),
       rw left (told_remove (flat (lists c.self.inside.blocks.items)) c.args.source c.args.target (λ s t. option_map (λ (p : Place). p.count) (told_of c.self.inside.pairs s t)) _ c.self.invariant.2
           (λ u w. looked_up (λ (p : Place). p.count) _ None (told_of c.self.inside.pairs u w) _ (c.remove.ensures.updates u w))),
+      rw left (c.lower-2.ensures _ (c.lower.ensures _ (tells_same _ _ _ (λ k. ends_taken k c.args.source c.args.target c.take_from-gone.result (flat (lists c.self.inside.blocks.items)) (omega (arith, n, c.take_from-gone.ensures.gone, ap length left))) c.self.invariant.3))),
     )
 
 pub returns : goal.returns
