@@ -243,6 +243,9 @@ ticks = ["tick n%d+ n%d- 1" % (at % NETS, 1 + at // NETS) for at in range(500000
 timed("ticks from the front", nets + ticks, [tick[:-1] + "0" for tick in ticks])
 timed("the first net again and again", nets, [word + " n%d" % (at % NETS) for at in range(4 * NETS) for word in ("delnet", "net")])
 ring = ["inst u%d INV A=n%d Z=n%d" % (at, (at - 1) % (NETS - 1), at) for at in range(NETS - 1)]
-timed("a net at the end, many pins", nets[:-1] + ring, ["net x", "delnet x"] * 20000)
+timed("a net at the end, many pins", nets[:-1] + ring, ["net x", "delnet x"] * 800000)
+timed("a net at the end with a pin", nets[:-1] + ring, ["net x", "inst y INV A=n0 Z=x", "delinst y", "delnet x"] * 300000)
+some = ["tick n%d+ n%d- 1" % (at % (NETS - 1), 1 + at // (NETS - 1)) for at in range(500000)]
+timed("a net at the end with a tick", nets[:-1] + some, ["net x", "tick x+ n0- 1", "tick x+ n0- 0", "delnet x"] * 300000)
 PYTHON
 python3 apply.py "$program"
