@@ -1,18 +1,41 @@
 -- How names, drivers and ticks are found; no contract of the crate's public calls speaks of it.
-use Rattle.std.specs.Prelude.{◌≡◌, ℕ, ◌+◌, ◌*◌, ◌<◌, ◌==◌, nat_lt, true, if◌then◌else◌, List, All, Option, Some, None, is_some, option_and_then, option_map, slice_get, unwrap_or}
+use Rattle.std.specs.Prelude.{◌≡◌, ℕ, ◌+◌, ◌*◌, ◌<◌, ◌==◌, ◌⊎◌, nat_lt, true, false, if◌then◌else◌, List, All, Option, Some, None, is_some, option_and_then, option_map, map, slice_get, unwrap_or, Vec}
+use Rattle.std.specs.BTreeMap.{BTreeMap, get_by}
+use Rattle.std.specs.Cmp.Lexicographic.{slice_cmp}
 use Rattle.std.specs.List.{IsDistinct}
 use Rattle.std.specs.Str.{bytes_eq}
+use Rattle.std.specs.declared.alloc.Global.{Global}
 use Rattle.std.specs.declared.cmp.Ordering.{Ordering}
 use Rattle.std.specs.Map.{lookup}
 use Rattle.std.specs.Ordering.{is_eq, nat_cmp, ordering_then}
 use Rattle.netlist_model.specs.Circuit.{place_of}
 use Rattle.netlist_model.specs.Deletions.{moved_up}
 
--- names in order that differ, each with a number of its own: a name is found at its number, and all numbers are below the next
-pub record IsKeyed (names : List (List ℕ)) (numbers : List ℕ) (number : List ℕ → Option ℕ) (next : ℕ) : Type 0 where
-  pub found : (name : List ℕ) → number name ≡ option_and_then (slice_get numbers) (place_of name names)
+-- the names of the entries of an index map, in order
+abbrev pub names_in : List (ℕ × Vec ℕ Global) → List (List ℕ)
+names_in entries = map (λ e. e.1.items) entries
+
+-- the number that an ordered map tells of a name
+abbrev pub number_in : BTreeMap (Vec ℕ Global) ℕ → List ℕ → Option ℕ
+number_in numbers name = get_by (λ v. slice_cmp nat_cmp name v.items) numbers
+
+-- how names in order, each with a number of its own, are found: a number that is told of a name is the name's own, and a name of which
+-- none is told stands at its hint
+pub record IsFound (names : List (List ℕ)) (numbers : List ℕ) (hint number : List ℕ → Option ℕ) : Type 0 where
+  pub own : (name : List ℕ) (n : ℕ) → number name ≡ Some n → option_and_then (slice_get numbers) (place_of name names) ≡ Some n
+  pub told : (name : List ℕ) (k : ℕ) → place_of name names ≡ Some k → number name ≡ None → hint name ≡ Some k
+
+-- names in order that differ, each with a number of its own: all are found, and all numbers are below the next
+pub record IsKeyed (names : List (List ℕ)) (numbers : List ℕ) (hint number : List ℕ → Option ℕ) (next : ℕ) : Type 0 where
+  pub found : IsFound names numbers hint number
   pub below : All (λ n. n < next) numbers
   pub differ : IsDistinct bytes_eq names
+
+-- one more name is noted, with its number and place: at its hint, or by its number
+pub record HasNoted (name : List ℕ) (n place : ℕ) (hint number hint' number' : List ℕ → Option ℕ) : Type 0 where
+  pub kept : (q : List ℕ) (k : ℕ) → hint q ≡ Some k → hint' q ≡ Some k
+  pub others : (q : List ℕ) → bytes_eq name q ≡ false → number' q ≡ number q
+  pub here : ((hint' name ≡ Some place) × (number' name ≡ number name)) ⊎ (number' name ≡ Some n)
 
 -- the place that is told at a place, if one is
 abbrev pub told_at : List (Option ℕ) → ℕ → Option ℕ

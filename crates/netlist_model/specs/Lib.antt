@@ -11,4 +11,5 @@ pub mod Whole
 pub mod Sound
 pub mod Keyed
 pub mod Uses
+pub mod Hints
 pub mod Wired

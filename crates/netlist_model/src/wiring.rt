@@ -48,7 +48,7 @@ fn wire_of(words: &[PinWord<'_>], refs: &[NetRef], pin: &[u8]) -> Option<NetRef>
     }
 }
 
-/// What the pins are on, if each is given.
+/// What the pins are on, if each is given, with room for one pin more.
 #[tactic(auto, unfolding(crate::specs::Wired::all_wired))]
 fn wires_of(
     alloc: Global,
@@ -58,7 +58,7 @@ fn wires_of(
 ) -> Result<Option<Vec<NetRef>>, AllocError>
     ensures { IfOk result (λ o. option_map (λ v. v.items) o ≡ all_wired words.now refs.now [] pins.now) }
 {
-    let mut wires = Vec::with_capacity(alloc, pins.len())?;
+    let mut wires = Vec::with_capacity(alloc, pins.len().saturating_add(1))?;
     for pin in pins {
         match wire_of(words, refs, pin.bytes()) {
             Some(found) => wires.push(found)?,
