@@ -4,3 +4,4 @@ pub mod Offsets
 pub mod Outcomes
 pub mod OneFault
 pub mod Soundness
+pub mod Ranks

@@ -11,6 +11,8 @@ mod faults;
 pub mod laws;
 mod liveness;
 mod reversed;
+mod search;
+mod shown;
 #[cfg(test)]
 mod tests;
 
