@@ -5,11 +5,10 @@ use Rattle.std.specs.Cmp.Lexicographic.{slice_cmp}
 use Rattle.std.specs.List.{IsDistinct}
 use Rattle.std.specs.Str.{bytes_eq}
 use Rattle.std.specs.declared.alloc.Global.{Global}
-use Rattle.std.specs.declared.cmp.Ordering.{Ordering}
-use Rattle.std.specs.Map.{lookup}
-use Rattle.std.specs.Ordering.{is_eq, nat_cmp, ordering_then}
+use Rattle.std.specs.Ordering.{nat_cmp}
 use Rattle.netlist_model.specs.Circuit.{place_of}
 use Rattle.netlist_model.specs.Deletions.{moved_up}
+use Rattle.netlist_model.specs.PairTables.{Table, placed_of}
 
 -- the names of the entries of an index map, in order
 abbrev pub names_in : List (ℕ × Vec ℕ Global) → List (List ℕ)
@@ -46,23 +45,19 @@ abbrev pub place_after : ℕ → Option ℕ → Option ℕ
 place_after gone None = None
 place_after gone (Some k) = if k == gone then None else Some (moved_up gone k)
 
--- the order of pairs of numbers
-abbrev pub pair_cmp : (ℕ × ℕ) → (ℕ × ℕ) → Ordering
-pair_cmp a b = ordering_then (nat_cmp a.0 b.0) (nat_cmp a.1 b.1)
-
 -- the numbers of two events, if both have one
 abbrev pub key_of : List ℕ → ℕ → ℕ → Option (ℕ × ℕ)
 key_of numbers source target = option_and_then (λ a. option_map (λ b. (a, b)) (slice_get numbers target)) (slice_get numbers source)
 
--- what a table, of entries by pairs of numbers and of the events' numbers, tells of two events
-abbrev pub told_of : {A : Type 0} → (List ((ℕ × ℕ) × A) × List ℕ) → ℕ → ℕ → Option A
-told_of table source target = option_and_then (λ k. lookup (λ q. is_eq (pair_cmp k q)) table.0) (key_of table.1 source target)
+-- what a table of pairs of numbers, and the events' numbers, tell of two events
+abbrev pub told_of : {A : Type 0} → (Table A × List ℕ) → ℕ → ℕ → Option A
+told_of table source target = option_and_then (placed_of table.0) (key_of table.1 source target)
 
--- numbers that differ, all below the next; what is found is found at numbers below it
-pub record IsNumbered {A : Type 0} (entries : List ((ℕ × ℕ) × A)) (numbers : List ℕ) (next : ℕ) : Type 0 where
+-- numbers that differ, all below the next; what is placed is placed at numbers below it
+pub record IsNumbered {A : Type 0} (table : Table A) (numbers : List ℕ) (next : ℕ) : Type 0 where
   pub once : (i j n : ℕ) → slice_get numbers i ≡ Some n → slice_get numbers j ≡ Some n → i ≡ j
   pub below : (i n : ℕ) → slice_get numbers i ≡ Some n → n < next
-  pub known : (a b : ℕ) → is_some (lookup (λ q. is_eq (pair_cmp (a, b) q)) entries) ≡ true → (a < next) × (b < next)
+  pub known : (a b : ℕ) → is_some (placed_of table (a, b)) ≡ true → (a < next) × (b < next)
 
 -- an event, before a net was taken away
 abbrev pub event_before : ℕ → ℕ → ℕ

@@ -12,4 +12,5 @@ pub mod Sound
 pub mod Keyed
 pub mod Uses
 pub mod Hints
+pub mod PairTables
 pub mod Wired

@@ -19,6 +19,7 @@ mod keys;
 pub mod laws;
 mod names;
 mod netlist;
+mod pair_table;
 mod pairs;
 mod parts;
 mod ticks;

@@ -3,8 +3,8 @@ ghost use Rattle.std.specs.Prelude.{◌≡◌, ℕ, None, Some, cond, nat_lt, re
 ghost use Rattle.netlist_model.specs.Blocks.{pair_eq};
 ghost use Rattle.netlist_model.specs.Keyed.{event_before, key_of, told_of};
 
+use crate::pair_table::PairTable;
 use std::alloc::{AllocError, Global};
-use std::collections::BTreeMap;
 use std::marker::Model;
 
 /// The block of a tick, and the tick's count.
@@ -14,12 +14,11 @@ pub(crate) struct Place {
     pub(crate) count: u32,
 }
 
-/// The places of ticks by their pairs of events. Each event keeps a number while nets come and go, and an ordered map
-/// finds a place by two numbers: so no choice of pairs makes a look-up slow, and no key changes where a net is
-/// taken away.
+/// The places of ticks by their pairs of events. Each event keeps a number while nets come and go, and a table finds a
+/// place by two numbers: so no key changes where a net is taken away.
 #[derive(Drop)]
 pub(crate) struct Pairs {
-    places: BTreeMap<(u64, u64), Place>,
+    places: PairTable,
     numbers: Vec<u64>,
     next: u64,
 }
@@ -28,12 +27,13 @@ impl Model for Pairs {
     ghost use Rattle.std.specs.Prelude.{ℕ, List};
     ghost use Rattle.netlist_model.specs.Keyed.{IsNumbered};
     ghost use Rattle.netlist_model.specs.declared.pairs.Place.{Place};
+    ghost use Rattle.netlist_model.specs.PairTables.{Table};
 
-    ghost Value = { List ((ℕ × ℕ) × Place) × List ℕ };
+    ghost Value = { Table Place × List ℕ };
 
-    ghost view = { λ p. (p.places.entries, p.numbers.items) };
+    ghost view = { λ p. (p.places, p.numbers.items) };
 
-    ghost invariant = { λ p. IsNumbered p.places.entries p.numbers.items p.next };
+    ghost invariant = { λ p. IsNumbered p.places p.numbers.items p.next };
 }
 
 impl Pairs {
@@ -41,7 +41,7 @@ impl Pairs {
         ensures { (s t : ℕ) → told_of result s t ≡ None }
     {
         Pairs {
-            places: BTreeMap::new(alloc),
+            places: PairTable::empty(alloc),
             numbers: Vec::new(alloc),
             next: 0,
         }
@@ -52,7 +52,7 @@ impl Pairs {
         ensures { result ≡ told_of self.now source target }
     {
         match key(&self.numbers, source, target) {
-            Some(key) => self.places.get(&key).copied(),
+            Some(key) => self.places.find(key),
             None => None,
         }
     }
@@ -114,7 +114,7 @@ impl Pairs {
         ensures updates { (u v : ℕ) → told_of self.new u v ≡ cond (pair_eq (source, target) (u, v)) None (told_of self.old u v) }
     {
         match key(&self.numbers, source, target) {
-            Some(key) => self.places.remove(&key),
+            Some(key) => self.places.remove(key),
             None => None,
         }
     }
@@ -132,7 +132,7 @@ impl Pairs {
         ensures { IfOk result (λ p. (u v : ℕ) → told_of p u v ≡ told_of self.now u v) }
     {
         Ok(Pairs {
-            places: self.places.clone()?,
+            places: self.places.copy()?,
             numbers: Vec::from_slice(*self.numbers.allocator(), &self.numbers)?,
             next: self.next,
         })

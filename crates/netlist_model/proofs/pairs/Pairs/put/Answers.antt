@@ -11,7 +11,7 @@ invariant_of-self-2 c =
     let numbers = c.self.inside.numbers.items in
     let key = c.in-Some.key in
     let is : key_of numbers s t ≡ Some (key.0, key.1) = ap (λ ns. key_of ns s t) (sym c.deref.ensures.value) ∙ sym c.in-Some.ensures in
-    numbered_changed c.self.inside.places.entries c.insert.new.self.entries numbers c.self.inside.next s t key.0 key.1 (Some c.args.place) c.self.invariant is (λ q. c.in_ok-insert.ensures.updates.0 q)
+    numbered_changed c.self.inside.places c.insert.new.self numbers c.self.inside.next s t key.0 key.1 (Some c.args.place) c.self.invariant is c.in_ok-insert.ensures.ok
 
 pub returns-clause-ok : goal.returns-clause-ok
 returns-clause-ok c =
@@ -20,5 +20,5 @@ returns-clause-ok c =
     let numbers = c.self.inside.numbers.items in
     let key = c.in-Some.key in
     let is : key_of numbers s t ≡ Some (key.0, key.1) = ap (λ ns. key_of ns s t) (sym c.deref.ensures.value) ∙ sym c.in-Some.ensures in
-    λ u v. told_changed c.self.inside.places.entries c.insert.new.self.entries numbers c.self.inside.next s t key.0 key.1 (Some c.args.place) c.self.invariant is (λ q. c.in_ok-insert.ensures.updates.0 q) u v
+    λ u v. told_changed c.self.inside.places c.insert.new.self numbers c.self.inside.next s t key.0 key.1 (Some c.args.place) c.self.invariant is c.in_ok-insert.ensures.ok u v
     ∙ ap (λ o. cond (pair_eq (s, t) (u, v)) (Some c.args.place) (told_of o u v)) c.self.view_is

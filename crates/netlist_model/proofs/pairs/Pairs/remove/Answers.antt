@@ -11,7 +11,7 @@ invariant_of-self c =
     let numbers = c.self.inside.numbers.items in
     let key = c.in-Some.key in
     let is : key_of numbers s t ≡ Some (key.0, key.1) = ap (λ ns. key_of ns s t) (sym c.deref.ensures.value) ∙ sym c.in-Some.ensures in
-    numbered_changed c.self.inside.places.entries c.remove.new.self.entries numbers c.self.inside.next s t key.0 key.1 None c.self.invariant is (λ q. c.remove.ensures.updates.0 q)
+    numbered_changed c.self.inside.places c.remove.new.self numbers c.self.inside.next s t key.0 key.1 None c.self.invariant is c.remove.ensures.updates
 
 pub returns-in-Some-clause-updates : goal.returns-in-Some-clause-updates
 returns-in-Some-clause-updates c =
@@ -20,5 +20,5 @@ returns-in-Some-clause-updates c =
     let numbers = c.self.inside.numbers.items in
     let key = c.in-Some.key in
     let is : key_of numbers s t ≡ Some (key.0, key.1) = ap (λ ns. key_of ns s t) (sym c.deref.ensures.value) ∙ sym c.in-Some.ensures in
-    λ u v. told_changed c.self.inside.places.entries c.remove.new.self.entries numbers c.self.inside.next s t key.0 key.1 None c.self.invariant is (λ q. c.remove.ensures.updates.0 q) u v
+    λ u v. told_changed c.self.inside.places c.remove.new.self numbers c.self.inside.next s t key.0 key.1 None c.self.invariant is c.remove.ensures.updates u v
     ∙ ap (λ o. cond (pair_eq (s, t) (u, v)) None (told_of o u v)) c.self.view_is
