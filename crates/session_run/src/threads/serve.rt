@@ -44,6 +44,7 @@ fn shared_call<R: Threads + Wait + Sync, M: ArrivalMaker, G: Gate>(
     ensures book { IsSeatOf book.now seat.new }
     ensures seat { IsAtRest (view seat.new) session.old.number }
     ensures origin { (view seat.new).origin ≡ (view seat.old).origin }
+    ensures total { (view seat.new).total ≡ (view seat.old).total }
     ensures turn { (all : Analyses) (o : Origin) → StartsFrom all (view seat.old) o → IsOver all session.old →
         IfOk result (λ r. TookTurn all o (view seat.old) (view seat.new) session.old session.new call.now r.0 r.1) }
 {
@@ -76,6 +77,7 @@ fn next_call<R: Threads + Wait + Sync, M: ArrivalMaker, G: Gate>(
     ensures book { IsSeatOf book.now seat.new }
     ensures seat { IsAtRest (view seat.new) session.old.number }
     ensures origin { (view seat.new).origin ≡ (view seat.old).origin }
+    ensures total { (view seat.new).total ≡ (view seat.old).total }
     ensures serving { (all : Analyses) (o : Origin) (n : ℕ) (script rest : List Call) → StartsFrom all (view seat.old) o →
         IsServing all o.base n script (view seat.old) session.old ran.old.replies.items ran.old.places.items (call.now ∷ rest) →
         OnOk result (IsServing all o.base n script (view seat.new) session.new ran.new.replies.items ran.new.places.items rest) }
@@ -111,6 +113,7 @@ pub fn serve_session<R: Threads + Wait + Sync, M: ArrivalMaker, G: Gate>(
     ensures book { IsSeatOf book.now seat.new }
     ensures seat { IsAtRest (view seat.new) number }
     ensures origin { (view seat.new).origin ≡ (view seat.old).origin }
+    ensures total { (view seat.new).total ≡ (view seat.old).total }
     ensures served { (all : Analyses) (o : Origin) → StartsFrom all (view seat.old) o →
         IfOk result (λ r. HasServed all o.base number script.now (view seat.new) r.replies.items r.places.items) }
     ensures follow { (o : Origin) → (view seat.old).origin ≡ Some o → Follow o.base (view seat.old) → OnOk result (Follow o.base (view seat.new)) }

@@ -10,6 +10,7 @@ invariant-loop-call g l = record {
   here : IsSeatOf l.book l.seat;
   seat : IsAtRest (view l.seat) l.number;
   origin : (view l.seat).origin ≡ (view l.initial.seat).origin;
+  total : (view l.seat).total ≡ (view l.initial.seat).total;
   follow : (o : Origin) → (view l.initial.seat).origin ≡ Some o → Follow o.base (view l.initial.seat) → Follow o.base (view l.seat);
   number : l.session.number ≡ l.number;
   serving : (all : Analyses) (o : Origin) → StartsFrom all (view l.initial.seat) o →
