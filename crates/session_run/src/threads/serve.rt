@@ -97,7 +97,7 @@ fn next_call<R: Threads + Wait + Sync, M: ArrivalMaker, G: Gate>(
 }
 
 /// Makes the calls of a script, each shared one in a turn of the seat. The gate is passed with the session's number before each shared call,
-/// behind what it needs no turn for. `AllocError` only for want of memory; the seat has then made entries for a first part of the calls.
+/// behind what it needs no turn for. `AllocError` only for want of memory; no clause says which entries the seat has made then.
 pub fn serve_session<R: Threads + Wait + Sync, M: ArrivalMaker, G: Gate>(
     rt: &R,
     alloc: Global,
