@@ -55,10 +55,10 @@ fn mesh(alloc: Global, events: u32) -> Result<Vec<Rule>, AllocError> {
     Ok(rules)
 }
 
-fn micros(rt: &HostRuntime, events: u32, rules: &Vec<Rule>) -> io::Result<u64> {
+fn micros(rt: &HostRuntime, events: u32, rules: Vec<Rule>) -> io::Result<u64> {
     let alloc = rt.alloc();
-    let system = System::build(alloc, events, rules)?;
     let keep = vec![in alloc; true; rules.len()]?;
+    let system = System::build(alloc, events, rules)?;
     let mut fastest = u64::MAX;
     for _ in 0..5 {
         let start = Instant::now(rt)?;
@@ -81,7 +81,7 @@ fn times(rt: &HostRuntime, is_mesh: bool, has_cycle: bool) -> io::Result<()> {
         if has_cycle {
             rules.push(rule(events - 1, events - 2))?;
         }
-        let time = micros(rt, events, &rules)?;
+        let time = micros(rt, events, rules)?;
         let hundredths = if before == 0 { 0 } else { 100 * time / before };
         println!(rt; "  {events:>6} events {time:>8} us  ratio {}.{:02}", hundredths / 100, hundredths % 100)?;
         before = time;

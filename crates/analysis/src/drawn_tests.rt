@@ -185,7 +185,7 @@ fn agrees_with_plain_programs(rt: HostRuntime) -> Result<(), Fail> {
         let rules = drawn_rules(alloc, &mut numbers, events)?;
         let forks = drawn_forks(alloc, &mut numbers, events)?;
         assert!(rt; rules.len() <= MOST_RULES);
-        let system = System::build(alloc, events, &rules)?;
+        let system = System::build(alloc, events, rules)?;
         if let Ok(analysis) = analyse(&rt, alloc, &system, root, &forks, &Plain) {
             assert!(rt;
                 agrees(alloc, &system, root, &forks, &analysis)?,

@@ -127,7 +127,7 @@ fn answer<R: Threads + Sync + Abort, M: ArrivalMaker>(
     let root = number(Some(parts.next().ok_or("no root")?.trim_ascii()))?;
     assert!(rt; root < events);
     let forks = forks_of(rt, alloc, events, parts.next().ok_or("no forks")?)?;
-    let system = System::build(alloc, events, &rules)?;
+    let system = System::build(alloc, events, rules)?;
     let answer = analyse(rt, alloc, &system, root, &forks, maker);
     Ok(text_of(alloc, answer)?)
 }

@@ -82,13 +82,13 @@ const INVERTER_RING: [Rule; 6] = [
 fn one_net_system(alloc: Global) -> Result<System, AllocError>
     ensures { IfOk result (λ s. s ≡ record { events = 2; rules = one_net }) }
 {
-    System::build(alloc, 2, &ONE_NET)
+    System::build(alloc, 2, Vec::from_slice(alloc, &ONE_NET)?)
 }
 
 fn ring_system(alloc: Global) -> Result<System, AllocError>
     ensures { IfOk result (λ s. s ≡ record { events = 6; rules = inverter_ring }) }
 {
-    System::build(alloc, 6, &INVERTER_RING)
+    System::build(alloc, 6, Vec::from_slice(alloc, &INVERTER_RING)?)
 }
 
 // At 12/1 no cycle of the one net gains, and its start values are weights of walks.

@@ -77,7 +77,7 @@ fn system_if_any(alloc: Global, events: u32, rows: &[Row]) -> Result<Option<Syst
     ensures cycle { IfOk result (λ found. IfSome found (λ system. HasCycle system.rules)) }
 {
     let rules = rules_of(alloc, events, rows)?.ok_or("beyond the limits")?;
-    let system = System::build(alloc, events, &rules)?;
+    let system = System::build(alloc, events, rules)?;
     let live = is_live(alloc, &system)?;
     let some = has_cycle(alloc, &system)?;
     Ok(if live && some { Some(system) } else { None })

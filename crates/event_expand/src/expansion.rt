@@ -77,5 +77,5 @@ pub fn expand<R: Threads + Sync>(
     library.sound();
     let pieces = pieces_of(rt, alloc, library, net)?;
     let rules = pieces.concat(alloc)?;
-    System::build(alloc, events, &rules)
+    System::build(alloc, events, rules)
 }

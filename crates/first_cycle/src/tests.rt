@@ -43,7 +43,7 @@ fn found(
     assert!(rt; events <= MOST_EVENTS);
     assert!(rt; ends.len() <= MOST_RULES);
     let rules = rules_between(rt, alloc, events, ends)?;
-    let system = System::build(alloc, events, &rules)?;
+    let system = System::build(alloc, events, rules)?;
     let mut keep = vec![in alloc; true; ends.len()]?;
     for number in dropped {
         if *number < ends.len() {

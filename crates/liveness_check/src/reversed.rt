@@ -11,7 +11,7 @@ pub fn reversed(alloc: Global, system: &System) -> Result<System, AllocError>
     ensures rules { IfOk result (λ turned. turned.rules ≡ map reversed_rule system.now.rules) }
 {
     let rules = reversed_rules(alloc, system.rules())?;
-    System::build(alloc, system.events(), &rules)
+    System::build(alloc, system.events(), rules)
 }
 
 /// The rules turned round.

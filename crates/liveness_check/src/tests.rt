@@ -44,7 +44,7 @@ fn verdict(
     assert!(rt; events <= MOST_EVENTS);
     assert!(rt; parts.len() <= MOST_RULES);
     let rules = rules_of(rt, alloc, events, parts)?;
-    let system = System::build(alloc, events, &rules)?;
+    let system = System::build(alloc, events, rules)?;
     match check(alloc, &system, 0) {
         Ok(()) => format!(in alloc; "ok"),
         Err(LiveFault::Unreached(event)) => format!(in alloc; "unreached {event}"),

@@ -53,7 +53,7 @@ const INVERTER_RING: [Rule; 6] = [
 fn ring(alloc: Global) -> Result<System, AllocError>
     ensures { IfOk result (λ s. s ≡ record { events = 6; rules = inverter_ring }) }
 {
-    System::build(alloc, 6, &INVERTER_RING)
+    System::build(alloc, 6, Vec::from_slice(alloc, &INVERTER_RING)?)
 }
 
 #[test]

@@ -72,7 +72,7 @@ const BOTH_WAYS: [Rule; 4] = [
 
 #[test]
 fn builds_the_ring(rt: HostRuntime) -> Result<(), Fail> {
-    let system = System::build(rt.alloc(), 6, &INVERTER_RING)?;
+    let system = System::build(rt.alloc(), 6, Vec::from_slice(rt.alloc(), &INVERTER_RING)?)?;
     assert_eq!(rt; system.events(), 6);
     assert_eq!(rt; system.rules(), INVERTER_RING.as_slice());
     assert_eq!(rt; system.into_event(0), [4].as_slice());
@@ -82,7 +82,7 @@ fn builds_the_ring(rt: HostRuntime) -> Result<(), Fail> {
 
 #[test]
 fn lists_rules_in_rising_order(rt: HostRuntime) -> Result<(), Fail> {
-    let system = System::build(rt.alloc(), 2, &BOTH_WAYS)?;
+    let system = System::build(rt.alloc(), 2, Vec::from_slice(rt.alloc(), &BOTH_WAYS)?)?;
     assert_eq!(rt; system.into_event(0), [0, 1].as_slice());
     assert_eq!(rt; system.into_event(1), [2, 3].as_slice());
     assert_eq!(rt; system.out_of_event(0), [0, 2].as_slice());
@@ -99,7 +99,7 @@ fn keeps_the_numbers_of_a_cycle(rt: HostRuntime) -> Result<(), Fail> {
 
 #[test]
 fn finds_first_cycles_plainly(rt: HostRuntime) -> Result<(), Fail> {
-    let system = System::build(rt.alloc(), 2, &BOTH_WAYS)?;
+    let system = System::build(rt.alloc(), 2, Vec::from_slice(rt.alloc(), &BOTH_WAYS)?)?;
     let rows = [
         ([true, true, true, true], Some([0].as_slice())),
         ([false, true, true, true], Some([2, 1].as_slice())),
@@ -116,7 +116,7 @@ fn finds_first_cycles_plainly(rt: HostRuntime) -> Result<(), Fail> {
 #[test]
 fn finds_the_ring_plainly(rt: HostRuntime) -> Result<(), Fail> {
     ring_has_its_period();
-    let system = System::build(rt.alloc(), 6, &INVERTER_RING)?;
+    let system = System::build(rt.alloc(), 6, Vec::from_slice(rt.alloc(), &INVERTER_RING)?)?;
     assert!(rt; plain::is_period(66, 1, &system));
     let times = plain::arrivals(rt.alloc(), 66, 1, &system, 0)?;
     assert_eq!(rt; times.as_slice(), [0, 32, 44, 10, 22, 54].as_slice());
