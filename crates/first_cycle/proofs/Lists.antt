@@ -1,8 +1,9 @@
 -- The lists of the rules out of an event and into one: what they hold, and in which order.
-use Rattle.std.proofs.Common.{◌≡◌, ◌≢◌, ℕ, zero, suc, ◌+◌, ◌<◌, ◌≤◌, Bool, true, false, cond, List, ◌∷◌, length, get_or, filter, refl, sym, ap, subst, arith, ◌==◌, ◌⊎◌, inl, inr}
+use Rattle.std.proofs.Common.{◌≡◌, ◌≢◌, ℕ, zero, suc, ◌+◌, ◌<◌, ◌≤◌, Bool, true, false, cond, List, ◌∷◌, All, length, get_or, filter, refl, sym, ap, subst, arith, ◌==◌, ◌⊎◌, inl, inr}
 use Rattle.std.specs.List.{range_with_len}
 use Rattle.std.proofs.lemmas.Bool.{cases_eq, cases_lt}
 use Rattle.std.proofs.lemmas.Bool.Decides.{nat_tests}
+use Rattle.std.proofs.lemmas.List.Elements.{All-from_get_or}
 use Rattle.rule_system.specs.declared.rules.Rule.{Rule}
 use Rattle.rule_system.specs.Rules.{source_of, target_of}
 use Rattle.rule_system.specs.Bounds.{rules_into, rules_out_of}
@@ -86,6 +87,12 @@ rule_into rs event i h =
   where
     same : (a b : ℕ) → (a == b) ≡ true → a ≡ b
     same a b e = grind (arith, nat_tests)
+
+pub all_out : (rs : List Rule) (event : ℕ) → All (λ n. n < length rs) (rules_out_of rs event)
+all_out rs event = All-from_get_or (λ (n : ℕ). n < length rs) (rules_out_of rs event) 0 (λ i h. (rule_out rs event i h).inside)
+
+pub all_into : (rs : List Rule) (event : ℕ) → All (λ n. n < length rs) (rules_into rs event)
+all_into rs event = All-from_get_or (λ (n : ℕ). n < length rs) (rules_into rs event) 0 (λ i h. (rule_into rs event i h).inside)
 
 passing : (a b : ℕ) → a ≡ b → (a == b) ≡ true
 passing a b e = grind (arith, nat_tests)

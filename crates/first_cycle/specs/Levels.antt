@@ -45,6 +45,14 @@ pub record AreLevels (events : ℕ) (rules : List Rule) (keep : List Bool) (end 
   pub least : (event : ℕ) (walk : List ℕ) → IsKeptWalk rules keep event walk end → level_of levels event ≤ length walk
   pub below : (event : ℕ) (walk : List ℕ) → event < events → IsKeptWalk rules keep event walk end → level_of levels event < events
 
+-- each level is the least number of kept rules from the start, or the number of events where no kept walk leads from there
+pub record AreLevelsFrom (events : ℕ) (rules : List Rule) (keep : List Bool) (start : ℕ) (levels : List ℕ) : Type 0 where
+  pub count : length levels ≡ events
+  pub reached : (event : ℕ) → event < length levels → level_of levels event < length levels →
+      (walk : List ℕ) × IsKeptWalk rules keep start walk event × (length walk ≡ level_of levels event)
+  pub least : (event : ℕ) (walk : List ℕ) → IsKeptWalk rules keep start walk event → level_of levels event ≤ length walk
+  pub below : (event : ℕ) (walk : List ℕ) → event < events → IsKeptWalk rules keep start walk event → level_of levels event < events
+
 -- the first in the order of lists of the kept walks with the fewest rules
 pub record IsLeastWalk (rules : List Rule) (keep : List Bool) (a count : ℕ) (walk : List ℕ) (b : ℕ) : Type 0 where
   pub is_walk : IsKeptWalk rules keep a walk b

@@ -1,7 +1,7 @@
-//! The first cycle of a set of rules, and how many rules it takes to an event, in time linear in events and rules.
+//! The first cycle of a set of rules, and how many rules it takes to an event and from one, in time linear in events and rules.
 //!
 //! The promise: `first_cycle` answers the first cycle of the kept rules, and none exactly where they have no cycle;
-//! `levels_to` says how many kept rules it takes to an event at least.
+//! `levels_to` and `levels_from` say how many kept rules it takes to an event and from it at least.
 //!
 //! Which cycle is the first is defined in the crate rule_system (`FirstCycle`), levels in `specs/Levels`. The numbers of
 //! components in `components.rt` are not proved: each use tests them (`numbers.rt`), and poor ones cost time alone.
@@ -15,5 +15,5 @@ mod steps;
 #[cfg(test)]
 mod tests;
 
-pub use levels::levels_to;
+pub use levels::{levels_from, levels_to};
 pub use search::first_cycle;

@@ -2,7 +2,7 @@
 ghost use Rattle.std.specs.Prelude.{◌≡◌, ◌<◌, ◌≤◌, All, IfOk, length, vec_len};
 ghost use Rattle.rule_system.specs.Bounds.{IsRule};
 
-use crate::first_cycle;
+use crate::{first_cycle, levels_from, levels_to};
 use rule_system::{MOST_EVENTS, MOST_RULES, Rule, System};
 use std::alloc::{AllocError, Global};
 use std::process::Abort;
@@ -107,6 +107,20 @@ fn finds_the_first(rt: HostRuntime) -> Result<(), Fail> {
         let got = found(&rt, rt.alloc(), events, ends, dropped)?;
         assert_eq!(rt; got.as_slice(), want, "{name}");
     }
+    Ok(())
+}
+
+#[test]
+fn counts_kept_rules_to_an_event_and_from_it(rt: HostRuntime) -> Result<(), Fail> {
+    let alloc = rt.alloc();
+    let ends = [(0, 1), (1, 2), (2, 0), (2, 3), (0, 2), (2, 1)];
+    let keep = [true, true, true, true, false, false];
+    let rules = rules_between(&rt, alloc, 4, &ends)?;
+    let system = System::build(alloc, 4, rules)?;
+    let to = levels_to(alloc, &system, &keep, 2)?;
+    assert_eq!(rt; to.as_slice(), [2, 1, 0, 4].as_slice());
+    let from = levels_from(alloc, &system, &keep, 2)?;
+    assert_eq!(rt; from.as_slice(), [1, 2, 0, 1].as_slice());
     Ok(())
 }
 

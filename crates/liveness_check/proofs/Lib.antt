@@ -1,4 +1,3 @@
-pub mod Turned
 pub mod Returns
 pub mod Offsets
 pub mod Outcomes

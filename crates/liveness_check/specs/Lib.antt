@@ -1,3 +1,2 @@
-pub mod Reversed
 pub mod Liveness
 pub mod Shown

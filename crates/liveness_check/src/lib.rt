@@ -10,7 +10,6 @@
 mod faults;
 pub mod laws;
 mod liveness;
-mod reversed;
 mod search;
 mod shown;
 #[cfg(test)]

@@ -6,9 +6,8 @@ ghost use Rattle.rule_system.specs.FirstCycle.{IsFirstCycle};
 ghost use Rattle.rule_system.specs.Walks.{IsConnected, IsLive, Reaches, has_no_offset};
 
 use crate::faults::LiveFault;
-use crate::reversed::reversed;
 use crate::shown::is_shown;
-use first_cycle::{first_cycle, levels_to};
+use first_cycle::{first_cycle, levels_from, levels_to};
 use rule_system::{Cycle, Rule, System};
 use std::alloc::{AllocError, Global};
 
@@ -42,8 +41,9 @@ fn least_unreached(alloc: Global, system: &System, root: u32) -> Result<Option<u
     ensures some { IfOk result (λ found. IfSome found (λ event. IsLeastUnreached system.now.events system.now.rules root event)) }
     ensures none { IfOk result (λ found. IfNone found ((event : ℕ) → event < system.now.events → Reaches system.now.rules root event)) }
 {
-    let turned = reversed(alloc, system)?;
-    least_without_return(alloc, &turned, root)
+    let keep = all_flags(alloc, system.rules())?;
+    let levels = levels_from(alloc, system, &keep, root)?;
+    Ok(first_lost(&levels, system.events()))
 }
 
 /// The least event from which no walk leads to the root.
@@ -61,7 +61,7 @@ fn least_without_return(
     Ok(first_lost(&levels, system.events()))
 }
 
-/// The first event whose level is the number of events, which says that no walk leads to the end.
+/// The first event whose level is the number of events, which says that no walk joins it to the root.
 fn first_lost(levels: &[u32], events: u32) -> Option<u32>
     requires { length levels.now ≡ events }
     ensures some { IfSome result (λ event. IsFirstLost events levels.now event) }
