@@ -1,4 +1,4 @@
-//! Whether what the searches propose shows that a system is connected and live.
+//! Whether trees that a search proposes, and an order of the events, show that a system is connected and live.
 ghost use Rattle.std.specs.Prelude.{◌≡◌, ◌<◌, ℕ, IfOk, true};
 ghost use Rattle.liveness_check.specs.Shown.{ComesLower, GoesLower, rank_of};
 ghost use Rattle.rule_system.specs.Walks.{IsConnected, IsLive, Reaches};
@@ -9,8 +9,8 @@ use rule_system::orders::order;
 use rule_system::{Rule, System};
 use std::alloc::{AllocError, Global};
 
-/// Whether walks from the root and back, and an order along rules of offset 0, were found that show it. Where they were
-/// not, nothing is said. Linear in events and rules.
+/// Whether walks from the root and back were found, and an order along rules of offset 0. Where they were not, nothing is
+/// said. Linear in events and rules.
 pub(crate) fn is_shown(alloc: Global, system: &System, root: u32) -> Result<bool, AllocError>
     ensures connected { IfOk result (λ shown. shown ≡ true → IsConnected system.now.events system.now.rules root) }
     ensures live { IfOk result (λ shown. shown ≡ true → IsLive system.now.rules) }

@@ -1,6 +1,5 @@
 //! An order of the events along the rules of offset 0, where no cycle of them stands.
 ghost use Rattle.std.specs.Prelude.{◌≡◌, ℕ, ◌<◌, ◌≤◌, IfNone, IfOk, IfSome, false, get_or, length, true};
-ghost use Rattle.rule_system.specs.Bounds.{rules_into};
 ghost use Rattle.rule_system.specs.Orders.{ArePlaces, AreTried, DeadCycle, HasPlaced, IsForward, IsSettled, IsWaiting, place_of};
 ghost use Rattle.rule_system.specs.Rules.{rule_at, source_of, target_of};
 
@@ -30,7 +29,7 @@ pub fn order(alloc: Global, system: &System) -> Result<Option<Vec<u32>>, AllocEr
     Ok(Some(order))
 }
 
-/// Gives places to an event and to all that it waits for, unless a cycle stands.
+/// Gives places to an event and to all that it waits for, and answers whether it could: else a cycle stands.
 fn place(
     alloc: Global,
     system: &System,
