@@ -1,7 +1,7 @@
 -- Ranks that show how events are joined.
 use Rattle.std.specs.Prelude.{◌≡◌, ℕ, ◌<◌, List, length, get_or}
 use Rattle.rule_system.specs.declared.rules.Rule.{Rule}
-use Rattle.rule_system.specs.Rules.{rule_at, source_of, target_of}
+use Rattle.rule_system.specs.Rules.{source_of, target_of}
 
 -- an event's rank
 abbrev pub rank_of : List ℕ → ℕ → ℕ
@@ -20,8 +20,3 @@ pub record GoesLower (rules : List Rule) (ranks : List ℕ) (event : ℕ) : Type
   pub inside : number < length rules
   pub from_it : source_of rules number ≡ event
   pub lower : rank_of ranks (target_of rules number) < rank_of ranks event
-
--- the rule of a number, if its offset is 0, leads to an event of higher rank
-abbrev pub Rises : List Rule → List ℕ → ℕ → Type 0
-Rises rules ranks number =
-    (rule_at rules number).offset ≡ 0 → rank_of ranks (source_of rules number) < rank_of ranks (target_of rules number)

@@ -13,7 +13,7 @@ use std::alloc::{AllocError, Global};
 
 /// Ok exactly where walks lead from the root to each event and back, and every cycle has an offset; else the first of
 /// the faults V1 to V3 that holds. The root is an event. Linear in events and rules. A system without fault is shown to be
-/// so by trees of walks and an order of its events, which are searched for without proof; faults are told by levels.
+/// so by trees of walks, which are searched for without proof, and by an order of its events; faults are told by levels.
 pub fn check(alloc: Global, system: &System, root: u32) -> Result<(), LiveFault>
     requires { root < system.now.events }
     ensures connected { IfOk result (λ _. IsConnected system.now.events system.now.rules root) }

@@ -1,14 +1,16 @@
-//! Whether what the searches propose shows that a system is connected and live.
+//! Whether trees that a search proposes, and an order of the events, show that a system is connected and live.
 ghost use Rattle.std.specs.Prelude.{◌≡◌, ◌<◌, ℕ, IfOk, true};
 ghost use Rattle.liveness_check.specs.Shown.{ComesLower, GoesLower, rank_of};
 ghost use Rattle.rule_system.specs.Walks.{IsConnected, IsLive, Reaches};
 
-use crate::search::{Tree, Way, ranks_of, tree_of};
+use crate::search::{Tree, Way, tree_of};
+use rule_system::laws::forward_orders_show_liveness;
+use rule_system::orders::order;
 use rule_system::{Rule, System};
 use std::alloc::{AllocError, Global};
 
-/// Whether walks from the root and back, and an order along rules of offset 0, were found that show it. Where they were
-/// not, nothing is said. Linear in events and rules.
+/// Whether walks from the root and back were found, and an order along rules of offset 0. Where they were not, nothing is
+/// said. Linear in events and rules.
 pub(crate) fn is_shown(alloc: Global, system: &System, root: u32) -> Result<bool, AllocError>
     ensures connected { IfOk result (λ shown. shown ≡ true → IsConnected system.now.events system.now.rules root) }
     ensures live { IfOk result (λ shown. shown ≡ true → IsLive system.now.rules) }
@@ -21,8 +23,8 @@ pub(crate) fn is_shown(alloc: Global, system: &System, root: u32) -> Result<bool
     if !all_go_lower(system, &to, root) {
         return Ok(false);
     }
-    let ranks = ranks_of(alloc, system)?;
-    Ok(all_rise(system.rules(), &ranks))
+    forward_orders_show_liveness();
+    Ok(order(alloc, system)?.is_some())
 }
 
 /// Whether each event but the root has a rule to it from an event of lower rank. Then walks lead from the root to all.
@@ -75,18 +77,6 @@ fn goes_lower(rules: &[Rule], tree: &Tree, event: u32) -> bool
         return false;
     };
     rule.source == event && is_lower(&tree.ranks, rule.target, event)
-}
-
-/// Whether ranks rise along the rules of offset 0. Then no cycle of them stands.
-fn all_rise(rules: &[Rule], ranks: &[u32]) -> bool
-    ensures { result ≡ true → IsLive rules.now }
-{
-    'rules: for rule in rules {
-        if rule.offset == 0 && !is_lower(ranks, rule.source, rule.target) {
-            return false;
-        }
-    }
-    true
 }
 
 /// Whether an event's rank is below another's.

@@ -6,10 +6,10 @@ use Rattle.rule_system.specs.declared.rules.Rule.{Rule}
 use Rattle.rule_system.specs.Rules.{rule_at, offset_sum}
 use Rattle.rule_system.specs.Walks.{IsCycle, IsLive, IsKept, has_no_offset}
 
-to_test : (n : ℕ) → n ≡ 0 → (n == 0) ≡ true
+pub to_test : (n : ℕ) → n ≡ 0 → (n == 0) ≡ true
 to_test n h = grind (arith, nat_tests)
 
-from_test : (n : ℕ) → (n == 0) ≡ true → n ≡ 0
+pub from_test : (n : ℕ) → (n == 0) ≡ true → n ≡ 0
 from_test n h = grind (arith, nat_tests)
 
 all_without : (rs : List Rule) (w : List ℕ) → offset_sum rs w ≡ 0 → IsKept (has_no_offset rs) w

@@ -20,3 +20,7 @@ mod Ends
 pub mod PlainWalks
 pub mod GreatestWeight
 pub mod PlainPeriod
+mod Lists
+mod Forward
+mod Places
+mod Trails

@@ -2,6 +2,7 @@ pub mod Rules
 pub mod Walks
 pub mod Weights
 pub mod Bounds
+pub mod Orders
 pub mod FirstCycle
 pub mod CriticalCycle
 pub mod InverterRing

@@ -10,6 +10,7 @@ ghost use Rattle.rule_system.specs.Bounds.{IsSystem, AreSmallSums, most_delay, m
 ghost use Rattle.rule_system.specs.Walks.{IsWalk, IsCycle, IsSimpleCycle, IsLive, IsConnected, IsKept, KeptPath, ClosedPart, EndsBelow, Reaches, has_no_offset};
 ghost use Rattle.rule_system.specs.Weights as w;
 ghost use Rattle.rule_system.specs.FirstCycle.{IsFirstCycle};
+ghost use Rattle.rule_system.specs.Orders.{IsForward};
 ghost use Rattle.rule_system.specs.CriticalCycle.{IsCriticalCycle};
 
 /// Where along each rule some numbers rise by at least its weight, no cycle has a greater ratio.
@@ -183,6 +184,12 @@ pub fn long_walks_have_a_closed_part()
 pub fn systems_without_dead_cycles_are_live()
     ensures { (rules : List Rule) →
         ((cycle : List ℕ) → IsCycle rules cycle → IsKept (has_no_offset rules) cycle → ⊥) → IsLive rules }
+{}
+
+/// An order of the events in which each rule without offset goes forward shows that the system is live.
+pub fn forward_orders_show_liveness()
+    ensures { (events : ℕ) (rules : List Rule) (order : List ℕ) →
+        IsForward events rules order → IsLive rules }
 {}
 
 /// A cycle of rules without offset has none.

@@ -17,6 +17,7 @@ pub mod inverter_ring;
 pub mod laws;
 mod limits;
 pub mod measures;
+pub mod orders;
 pub mod plain;
 mod rows;
 mod rules;

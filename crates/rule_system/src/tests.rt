@@ -1,5 +1,6 @@
 //! The inverter ring, its lists of rules, and the plain programs on it.
 use crate::inverter_ring::ring_has_its_period;
+use crate::orders::order;
 use crate::{Cycle, Rule, System, plain};
 use std::test::Fail;
 
@@ -70,6 +71,28 @@ const BOTH_WAYS: [Rule; 4] = [
     },
 ];
 
+/// A rule without offset from each event to the next, and back from the last to the second.
+const DEAD_CYCLE: [Rule; 3] = [
+    Rule {
+        source: 0,
+        target: 1,
+        delay: 1,
+        offset: 0,
+    },
+    Rule {
+        source: 1,
+        target: 2,
+        delay: 1,
+        offset: 0,
+    },
+    Rule {
+        source: 2,
+        target: 1,
+        delay: 1,
+        offset: 0,
+    },
+];
+
 #[test]
 fn builds_the_ring(rt: HostRuntime) -> Result<(), Fail> {
     let system = System::build(rt.alloc(), 6, Vec::from_slice(rt.alloc(), &INVERTER_RING)?)?;
@@ -109,6 +132,26 @@ fn finds_first_cycles_plainly(rt: HostRuntime) -> Result<(), Fail> {
     for (keep, want) in rows {
         let found = plain::first_cycle(rt.alloc(), &system, &keep)?;
         assert_eq!(rt; found.as_ref().map(|cycle| cycle.list()), want);
+    }
+    Ok(())
+}
+
+#[test]
+fn orders_events(rt: HostRuntime) -> Result<(), Fail> {
+    let rows = [
+        (
+            6,
+            INVERTER_RING.as_slice(),
+            Some([0, 3, 4, 1, 2, 5].as_slice()),
+        ),
+        (2, BOTH_WAYS.as_slice(), Some([0, 1].as_slice())),
+        (3, DEAD_CYCLE.as_slice(), None),
+        (0, [].as_slice(), Some([].as_slice())),
+    ];
+    for (events, rules, want) in rows {
+        let system = System::build(rt.alloc(), events, Vec::from_slice(rt.alloc(), rules)?)?;
+        let found = order(rt.alloc(), &system)?;
+        assert_eq!(rt; found.as_deref(), want);
     }
     Ok(())
 }

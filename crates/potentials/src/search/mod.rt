@@ -3,7 +3,6 @@
 mod dijkstra;
 mod heights;
 mod links;
-mod order;
 mod pending;
 mod places;
 mod reduced;

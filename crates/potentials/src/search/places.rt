@@ -1,8 +1,8 @@
 //! A system's events at places in an order in which rules of offset 0 go forward, with the rules by place.
 
 use crate::search::links::{Link, Links};
-use crate::search::order::order_of;
 use rule_system::System;
+use rule_system::orders::order;
 use std::alloc::{AllocError, Global};
 
 /// The place of each event, and the rules into and out of each place.
@@ -14,9 +14,12 @@ pub struct Places {
 }
 
 impl Places {
-    /// The places of a system.
+    /// The places of a system. Where a cycle of rules of offset 0 stands, the events keep their numbers.
     pub fn of(alloc: Global, system: &System) -> Result<Places, AllocError> {
-        let order = order_of(alloc, system)?;
+        let order = match order(alloc, system)? {
+            Some(order) => order,
+            None => (0..system.events()).collect(alloc)?,
+        };
         let places = places_of(alloc, &order)?;
         let into = links_into(alloc, system, &places)?;
         let out_of = links_out_of(alloc, system.events(), &into)?;
