@@ -1,4 +1,5 @@
 pub mod Shape
+pub mod Senses
 pub mod Steps
 pub mod Library
 pub mod IsLibrary

@@ -16,6 +16,7 @@ mod libraries;
 mod names_index;
 mod reading;
 pub mod samples;
+mod senses;
 mod shapes;
 #[cfg(test)]
 mod tests;
@@ -23,3 +24,4 @@ mod tests;
 pub use cells::{Arcs, Cell, CellArc, Pins, Sense};
 pub use faults::LibraryFault;
 pub use libraries::Library;
+pub use senses::EdgePair;

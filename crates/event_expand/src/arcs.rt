@@ -5,7 +5,7 @@ ghost use Rattle.netlist_model.specs.Expansion as spec;
 ghost use Rattle.event_expand.specs.Pieces.{IsSmall};
 ghost use Rattle.event_expand.specs.Systems.{system_rule};
 
-use cell_arcs::{CellArc, Sense};
+use cell_arcs::{CellArc, EdgePair, Sense};
 use netlist_model::{Delay, NetRef, Netlist};
 use rule_system::Rule;
 use std::alloc::AllocError;
@@ -38,7 +38,32 @@ fn push_rule(
     Ok(())
 }
 
-/// Adds the rules from the edges of an input's net to those of an output's net, in order.
+/// The delay of an arc to an edge of its output, which rises or not.
+fn delay_to(rising: bool, delay: Delay) -> u32
+    ensures { result ≡ spec.delay_to rising delay }
+{
+    if rising { delay.rise } else { delay.fall }
+}
+
+/// Adds the rule of an arc for a pair of edges.
+fn push_pair(
+    rules: &mut Vec<Rule>,
+    net: &Netlist,
+    pair: EdgePair,
+    input: u32,
+    output: u32,
+    delay: Delay,
+) -> Result<(), AllocError>
+    requires input { input < 16384 }
+    requires output { output < 16384 }
+    ensures { OnOk result (rules.new.items ≡ rules.old.items ++ system_rule (spec.edge_rule net.now.ticks input output delay pair) ∷ []) }
+{
+    let source = event(input, pair.input);
+    let target = event(output, pair.output);
+    push_rule(rules, net, source, target, delay_to(pair.output, delay))
+}
+
+/// Adds the rules of an arc from an input's net to an output's net, one for each pair of edges of its sense.
 fn push_edges(
     rules: &mut Vec<Rule>,
     net: &Netlist,
@@ -51,24 +76,10 @@ fn push_edges(
     requires output { output < 16384 }
     ensures { OnOk result (rules.new.items ≡ rules.old.items ++ map system_rule (spec.rules_by sense net.now.ticks input output delay)) }
 {
-    let (rise_in, fall_in) = (event(input, true), event(input, false));
-    let (rise_out, fall_out) = (event(output, true), event(output, false));
-    match sense {
-        Sense::Pos => {
-            push_rule(rules, net, rise_in, rise_out, delay.rise)?;
-            push_rule(rules, net, fall_in, fall_out, delay.fall)
-        }
-        Sense::Neg => {
-            push_rule(rules, net, fall_in, rise_out, delay.rise)?;
-            push_rule(rules, net, rise_in, fall_out, delay.fall)
-        }
-        Sense::Non => {
-            push_rule(rules, net, rise_in, rise_out, delay.rise)?;
-            push_rule(rules, net, fall_in, rise_out, delay.rise)?;
-            push_rule(rules, net, rise_in, fall_out, delay.fall)?;
-            push_rule(rules, net, fall_in, fall_out, delay.fall)
-        }
+    for pair in sense.edges() {
+        push_pair(rules, net, *pair, input, output, delay)?;
     }
+    Ok(())
 }
 
 /// The delays of an arc: those that the instance has of its own, or else the cell's.

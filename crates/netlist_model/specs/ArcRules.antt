@@ -1,11 +1,13 @@
 -- How many rules an arc makes, and between which events, told without the rules; no contract of the crate's public calls speaks of them.
-use Rattle.std.specs.Prelude.{◌≡◌, ℕ, ◌/◌, ◌%◌, ◌==◌, ◌&&◌, Bool, true, false, not, List, Option, Some, None, option_and_then, slice_get}
+use Rattle.std.specs.Prelude.{◌≡◌, ℕ, ◌/◌, ◌%◌, ◌==◌, ◌&&◌, Bool, true, false, not, List, Option, Some, None, option_and_then, length, slice_get}
 use Rattle.std.specs.List.{list_any, sum_by}
 use Rattle.std.specs.Option.{option_map_or}
 use Rattle.cell_arcs.specs.declared.cells.Cell.{Cell}
 use Rattle.cell_arcs.specs.declared.cells.CellArc.{CellArc}
 use Rattle.cell_arcs.specs.declared.cells.Sense.{Sense}
-use Rattle.cell_arcs.specs.declared.cells.Sense.TheVariants.{Pos, Neg, Non}
+use Rattle.cell_arcs.specs.declared.senses.EdgePair.{EdgePair}
+use Rattle.cell_arcs.specs.Senses.{edges_of}
+use mathlib.Core.Bool.{beq}
 use Rattle.netlist_model.specs.Circuit.{drives, driver_of}
 use Rattle.netlist_model.specs.declared.parts.Instance.{Instance}
 use Rattle.netlist_model.specs.declared.parts.NetRef.{NetRef}
@@ -14,9 +16,7 @@ use Rattle.netlist_model.specs.declared.parts.Tick.{Tick}
 
 -- how many rules an arc of this sense makes
 abbrev pub sense_count : Sense → ℕ
-sense_count Pos = 2
-sense_count Neg = 2
-sense_count Non = 4
+sense_count sense = length (edges_of sense)
 
 -- how many rules an arc of this sense makes from what its input pin is on
 abbrev pub source_count : Option NetRef → Sense → ℕ
@@ -36,13 +36,13 @@ inst_count library i = option_map_or (λ k. sum_by (arc_count i.pins) k.arcs) (s
 abbrev pub insts_count : List Cell → List Instance → ℕ
 insts_count library insts = sum_by (inst_count library) insts
 
+-- whether the edges of a pair are these, which rise or not
+abbrev pub is_pair : Bool → Bool → EdgePair → Bool
+is_pair source target e = beq e.input source && beq e.output target
+
 -- whether an arc of this sense leads from an edge, which rises or not, to an edge
 abbrev pub leads : Sense → Bool → Bool → Bool
-leads Pos true target = target
-leads Pos false target = not target
-leads Neg true target = not target
-leads Neg false target = target
-leads Non source target = true
+leads sense source target = list_any (is_pair source target) (edges_of sense)
 
 -- whether an arc leads from this event to this one of its output's net, by what its input pin is on
 abbrev pub source_joins : Option NetRef → Sense → ℕ → ℕ → Bool

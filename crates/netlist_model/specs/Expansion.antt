@@ -1,11 +1,12 @@
 -- The rules that a netlist stands for.
-use Rattle.std.specs.Prelude.{ℕ, ◌+◌, ◌++◌, true, false, List, [], ◌∷◌, Option, Some, None, option_map, unwrap_or, slice_get}
+use Rattle.std.specs.Prelude.{ℕ, ◌+◌, ◌++◌, Bool, true, false, List, [], ◌∷◌, Option, Some, None, option_map, map, unwrap_or, slice_get}
 use Rattle.std.specs.List.{flat_map}
 use Rattle.std.specs.Option.{option_map_or}
 use Rattle.cell_arcs.specs.declared.cells.Cell.{Cell}
 use Rattle.cell_arcs.specs.declared.cells.CellArc.{CellArc}
 use Rattle.cell_arcs.specs.declared.cells.Sense.{Sense}
-use Rattle.cell_arcs.specs.declared.cells.Sense.TheVariants.{Pos, Neg, Non}
+use Rattle.cell_arcs.specs.declared.senses.EdgePair.{EdgePair}
+use Rattle.cell_arcs.specs.Senses.{edges_of}
 use Rattle.netlist_model.specs.Circuit.{Circuit, event_at, last_of, tick_of}
 use Rattle.netlist_model.specs.declared.parts.Delay.{Delay}
 use Rattle.netlist_model.specs.declared.parts.Instance.{Instance}
@@ -29,15 +30,18 @@ abbrev pub rule_of : List Tick → ℕ → ℕ → ℕ → Rule
 rule_of ticks source target delay =
     record { source = source; target = target; delay = delay; offset = offset_of ticks source target }
 
--- the rules of an arc from net a to net z, by its sense
+-- the delay of an arc to an edge of its output, which rises or not
+abbrev pub delay_to : Bool → Delay → ℕ
+delay_to true d = d.rise
+delay_to false d = d.fall
+
+-- the rule of an arc from net a to net z for a pair of edges
+abbrev pub edge_rule : List Tick → ℕ → ℕ → Delay → EdgePair → Rule
+edge_rule ticks a z d e = rule_of ticks (event_at e.input a) (event_at e.output z) (delay_to e.output d)
+
+-- the rules of an arc from net a to net z, one for each pair of edges of its sense
 abbrev pub rules_by : Sense → List Tick → ℕ → ℕ → Delay → List Rule
-rules_by Pos ticks a z d =
-    rule_of ticks (event_at true a) (event_at true z) d.rise ∷ rule_of ticks (event_at false a) (event_at false z) d.fall ∷ []
-rules_by Neg ticks a z d =
-    rule_of ticks (event_at false a) (event_at true z) d.rise ∷ rule_of ticks (event_at true a) (event_at false z) d.fall ∷ []
-rules_by Non ticks a z d =
-    rule_of ticks (event_at true a) (event_at true z) d.rise ∷ rule_of ticks (event_at false a) (event_at true z) d.rise
-    ∷ rule_of ticks (event_at true a) (event_at false z) d.fall ∷ rule_of ticks (event_at false a) (event_at false z) d.fall ∷ []
+rules_by sense ticks a z d = map (edge_rule ticks a z d) (edges_of sense)
 
 -- the delays of an arc: those that the instance has of its own, or else the cell's
 abbrev pub delay_of : CellArc → Option (Option Delay) → Delay

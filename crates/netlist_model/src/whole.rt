@@ -9,7 +9,7 @@ use crate::counting::cell_of;
 use crate::instances::Instances;
 use crate::names::Names;
 use crate::parts::{Instance, NetRef, Tick};
-use cell_arcs::{CellArc, Library, Sense};
+use cell_arcs::{CellArc, EdgePair, Library, Sense};
 
 /// The first net that no instance drives.
 pub(crate) fn first_undriven(insts: &Instances, nets: &Names) -> Option<usize>
@@ -25,14 +25,18 @@ pub(crate) fn first_undriven(insts: &Instances, nets: &Names) -> Option<usize>
     None
 }
 
+/// Whether the edges of a pair are these, which rise or not.
+fn is_pair(source: bool, target: bool, pair: &EdgePair) -> bool
+    ensures { result ≡ spec.is_pair source target pair.now }
+{
+    pair.input == source && pair.output == target
+}
+
+/// Whether an arc of the sense leads from an edge, which rises or not, to an edge.
 fn leads(sense: Sense, source: bool, target: bool) -> bool
     ensures { result ≡ spec.leads sense source target }
 {
-    match sense {
-        Sense::Pos => source == target,
-        Sense::Neg => source != target,
-        Sense::Non => true,
-    }
+    sense.edges().iter().any(|pair| is_pair(source, target, pair))
 }
 
 /// Whether an arc leads between the events of a tick to its output's net.
