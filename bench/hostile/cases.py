@@ -157,7 +157,6 @@ def file_words():
             run("other words", command, words, {2})
 
 
-
 def outputs():
     """Standard outputs that take nothing, or no more after some of the text."""
     put_small()
@@ -315,7 +314,6 @@ def long_netlists():
         make("long.net")
         for command, allowed in (("expand", expanded), ("analyze", analyzed)):
             run("16 MiB netlist: " + name, command, ["lib.toml", "long.net"], allowed, os.path.getsize("long.net"))
-
 
 
 def long_libraries():
