@@ -13,18 +13,44 @@ pub struct EdgePair {
 
 /// To the rising output, and then to the falling one.
 const SAME_EDGES: [EdgePair; 2] = [
-    EdgePair { input: true, output: true },
-    EdgePair { input: false, output: false },
+    EdgePair {
+        input: true,
+        output: true,
+    },
+    EdgePair {
+        input: false,
+        output: false,
+    },
 ];
+
 const OTHER_EDGES: [EdgePair; 2] = [
-    EdgePair { input: false, output: true },
-    EdgePair { input: true, output: false },
+    EdgePair {
+        input: false,
+        output: true,
+    },
+    EdgePair {
+        input: true,
+        output: false,
+    },
 ];
+
 const ALL_EDGES: [EdgePair; 4] = [
-    EdgePair { input: true, output: true },
-    EdgePair { input: false, output: true },
-    EdgePair { input: true, output: false },
-    EdgePair { input: false, output: false },
+    EdgePair {
+        input: true,
+        output: true,
+    },
+    EdgePair {
+        input: false,
+        output: true,
+    },
+    EdgePair {
+        input: true,
+        output: false,
+    },
+    EdgePair {
+        input: false,
+        output: false,
+    },
 ];
 
 impl Sense {

@@ -36,7 +36,10 @@ fn is_pair(source: bool, target: bool, pair: &EdgePair) -> bool
 fn leads(sense: Sense, source: bool, target: bool) -> bool
     ensures { result ≡ spec.leads sense source target }
 {
-    sense.edges().iter().any(|pair| is_pair(source, target, pair))
+    sense
+        .edges()
+        .iter()
+        .any(|pair| is_pair(source, target, pair))
 }
 
 /// Whether an arc leads between the events of a tick to its output's net.
