@@ -26,7 +26,7 @@ LIBRARY = "".join(
         ", ".join('{ from = "%s", sense = "%s", rise = %d, fall = %d }' % (pin, sense, rise, fall) for pin in pins))
     for name, pins, sense, rise, fall in [
         ("BUF", "A", "pos", 9, 8), ("C2", "AB", "pos", 20, 18), ("INV", "A", "neg", 12, 10), ("NOR2", "AB", "neg", 12, 10),
-        ("X1", "A", "non", 7, 5)])
+        ("X1", "A", "non", 7, 5), ("X16", "ABCDEFGHIJKLMNOP", "pos", 1, 1)])
 INPUTS = {"BUF": "A", "C2": "AB", "INV": "A", "NOR2": "AB", "X1": "A"}
 
 
@@ -247,5 +247,8 @@ timed("a net at the end, many pins", nets[:-1] + ring, ["net x", "delnet x"] * 8
 timed("a net at the end with a pin", nets[:-1] + ring, ["net x", "inst y INV A=n0 Z=x", "delinst y", "delnet x"] * 300000)
 some = ["tick n%d+ n%d- 1" % (at % (NETS - 1), 1 + at // (NETS - 1)) for at in range(500000)]
 timed("a net at the end with a tick", nets[:-1] + some, ["net x", "tick x+ n0- 1", "tick x+ n0- 0", "delnet x"] * 300000)
+wide = ["inst u%d X16 %s Z=n%d" % (at, " ".join("%s=n%d" % (pin, NETS - 1 - at % 64) for pin in "ABCDEFGHIJKLMNOP"), at) for at in range(1, NETS)]
+moves = [line for at in range(16000) for line in ("delnet n%d" % at, "net n%d" % at, "move u%d Z n%d" % (at + 1, at))]
+timed("the first net, 17 pins each", nets + wide, moves)
 PYTHON
 python3 apply.py "$program"
