@@ -1,5 +1,5 @@
 -- Forks of a system, and their slacks.
-use Rattle.std.specs.Prelude.{◌≡◌, ℕ, ◌<◌, ◌==◌, ℤ, List, length, slice_index_or, if◌then◌else◌}
+use Rattle.std.specs.Prelude.{◌≡◌, ℕ, ◌<◌, ◌==◌, ◌⊎◌, ℤ, List, length, slice_index_or, if◌then◌else◌}
 use Rattle.rule_system.specs.declared.rules.Rule.{Rule}
 use Rattle.rule_system.specs.Weights.{IsArrival, time_of}
 use Rattle.fork_slack.specs.declared.slacks.ForkOf.{ForkOf}
@@ -34,6 +34,24 @@ AreSlacks top bottom rules forks slacks =
 abbrev pub slack_or : ℕ → ℕ → ℕ → List ℤ → ForkOf → ℤ → ℤ
 slack_or top bottom root arrivals fork before = if fork.root == root then slack_of top bottom fork arrivals else before
 
--- an earlier fork has the same root
-abbrev pub HasEarlier : List ForkOf → ℕ → Type 0
-HasEarlier forks n = (k : ℕ) × (k < n) × ((fork_at forks k).root ≡ (fork_at forks n).root)
+-- the root of a number
+abbrev pub root_at : List ℕ → ℕ → ℕ
+root_at roots k = slice_index_or roots k 0
+
+-- the root is among these
+abbrev pub IsAmong : List ℕ → ℕ → Type 0
+IsAmong roots own = (k : ℕ) × (k < length roots) × (root_at roots k ≡ own)
+
+-- the root is the system's or among these
+abbrev pub IsMade : ℕ → List ℕ → ℕ → Type 0
+IsMade root roots own = (own ≡ root) ⊎ IsAmong roots own
+
+-- a fork has the root
+abbrev pub HasRoot : List ForkOf → ℕ → Type 0
+HasRoot forks own = (n : ℕ) × (n < length forks) × ((fork_at forks n).root ≡ own)
+
+-- slacks of the forks of the system's root, and of those of the first roots
+pub record AreSlacksOf (top bottom : ℕ) (rules : List Rule) (forks : List ForkOf) (root : ℕ) (roots : List ℕ) (count : ℕ) (slacks : List ℤ) : Type 0 where
+  pub counts : length slacks ≡ length forks
+  pub of_root : (n : ℕ) → n < length forks → (fork_at forks n).root ≡ root → IsSlack top bottom rules (fork_at forks n) (time_of slacks n)
+  pub of_each : (n k : ℕ) → n < length forks → k < count → root_at roots k ≡ (fork_at forks n).root → IsSlack top bottom rules (fork_at forks n) (time_of slacks n)

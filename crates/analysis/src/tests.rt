@@ -142,7 +142,7 @@ fn analyses_or_names_the_fault(rt: HostRuntime) -> Result<(), Fail> {
     Ok(())
 }
 
-/// Counts how often it is called.
+/// Counts the roots from which arrivals are made.
 #[derive(Drop)]
 struct Counting {
     calls: Cell<u32>,
@@ -160,6 +160,20 @@ impl ArrivalMaker for Counting {
     ) -> Result<Times, AllocError> {
         self.calls.set(self.calls.get().saturating_add(1));
         Plain.arrivals(rt, alloc, system, root, period, reduced)
+    }
+
+    fn arrivals_each<R: Threads + Sync>(
+        &self,
+        rt: &R,
+        alloc: Global,
+        system: &System,
+        roots: &[u32],
+        period: Ratio,
+        reduced: &Reduced,
+    ) -> Result<Vec<Times>, AllocError> {
+        self.calls
+            .set(self.calls.get().saturating_add(roots.len() as u32));
+        Plain.arrivals_each(rt, alloc, system, roots, period, reduced)
     }
 }
 

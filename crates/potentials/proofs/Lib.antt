@@ -1,2 +1,3 @@
+pub mod Collected
 mod Growth
 mod Steps

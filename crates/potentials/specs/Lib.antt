@@ -1,3 +1,4 @@
+pub mod Makers
 pub mod Times
 pub mod Trees
 pub mod Raised

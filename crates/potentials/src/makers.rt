@@ -1,16 +1,19 @@
 //! Makers of arrivals: the trait, and the one on one thread.
 ghost use Rattle.std.specs.Prelude.{◌≡◌, ◌<◌, ◌≤◌, ℕ, pos, All, IfOk};
+ghost use Rattle.std.specs.List.{AllZip};
 ghost use Rattle.std.specs.Thread.{IsSync};
 ghost use Rattle.cyc_num.specs.Ratio.{IsSmallRatio};
 ghost use Rattle.rule_system.specs.Walks.{IsConnected};
 ghost use Rattle.rule_system.specs.Weights.{HasNoGain, AreArrivals};
 ghost use Rattle.cyc_num.specs.Within.{LiesWithin};
+ghost use Rattle.potentials.specs.Makers.{AreArrivalsFrom, IsRootOf};
 
 use crate::rounds::settle;
 use crate::search::Reduced;
 use crate::starts::path_weights;
 use crate::times::Times;
 use cyc_num::Ratio;
+use rayon::prelude::*;
 use rule_system::System;
 use std::alloc::{AllocError, Global};
 use std::thread::Threads;
@@ -40,6 +43,23 @@ pub trait ArrivalMaker {
         requires no_gain { HasNoGain period.top period.bottom system.now.rules }
         ensures arrivals { IfOk result (λ x. AreArrivals period.top period.bottom system.now.events system.now.rules root x) }
         ensures within { IfOk result (λ x. All (LiesWithin 17000000000000000) x) };
+
+    /// The arrivals from each of the roots, in their order: for each root those that `arrivals` makes of it. Roots may be shared out to as
+    /// many threads as there are processors.
+    fn arrivals_each<R: Threads + Sync>(
+        &self,
+        rt: &R,
+        alloc: Global,
+        system: &System,
+        roots: &[u32],
+        period: Ratio,
+        reduced: &Reduced,
+    ) -> Result<Vec<Times>, AllocError>
+        requires sync { IsSync R.row }
+        requires ratio { IsSmallRatio period.top period.bottom }
+        requires roots { All (IsRootOf system.now) roots.now }
+        requires no_gain { HasNoGain period.top period.bottom system.now.rules }
+        ensures { IfOk result (λ lists. AllZip (AreArrivalsFrom period.top period.bottom system.now) roots.now lists.items) };
 }
 
 /// Finds arrivals on one thread: by one search of Dijkstra's over the reduced weights, which is tested.
@@ -56,11 +76,47 @@ impl ArrivalMaker for Plain {
         period: Ratio,
         reduced: &Reduced,
     ) -> Result<Times, AllocError> {
-        let top = period.top();
-        let bottom = period.bottom();
-        let order = reduced.rules_from(alloc, root)?;
-        let mut times = path_weights(alloc, system, &order, root, top, bottom)?;
-        settle(system, root, top, bottom, &mut times);
-        Ok(Times::of(times))
+        arrivals_by(alloc, system, root, period, reduced)
     }
+
+    fn arrivals_each<R: Threads + Sync>(
+        &self,
+        rt: &R,
+        alloc: Global,
+        system: &System,
+        roots: &[u32],
+        period: Ratio,
+        reduced: &Reduced,
+    ) -> Result<Vec<Times>, AllocError> {
+        roots
+            .par_iter()
+            .map(
+                |root: &u32| -> Result<Times, AllocError>
+                    requires { IsSmallRatio period.top period.bottom × IsRootOf system.now root.now × HasNoGain period.top period.bottom system.now.rules }
+                    ensures { IfOk result (AreArrivalsFrom period.top period.bottom system.entry.now root.now) }
+                { arrivals_by(alloc, system, *root, period, reduced) },
+            )
+            .collect(rt, alloc)?
+    }
+}
+
+/// The arrivals from a root, by one search of Dijkstra's over the reduced weights, which is tested.
+fn arrivals_by(
+    alloc: Global,
+    system: &System,
+    root: u32,
+    period: Ratio,
+    reduced: &Reduced,
+) -> Result<Times, AllocError>
+    requires ratio { IsSmallRatio period.top period.bottom }
+    requires root { IsRootOf system.now root }
+    requires no_gain { HasNoGain period.top period.bottom system.now.rules }
+    ensures { IfOk result (AreArrivalsFrom period.top period.bottom system.now root) }
+{
+    let top = period.top();
+    let bottom = period.bottom();
+    let order = reduced.rules_from(alloc, root)?;
+    let mut times = path_weights(alloc, system, &order, root, top, bottom)?;
+    settle(system, root, top, bottom, &mut times);
+    Ok(Times::of(times))
 }

@@ -69,6 +69,11 @@ fn arrivals_of_the_ring(rt: HostRuntime) -> Result<(), Fail> {
     let reduced = Reduced::at(rt.alloc(), &system, period)?;
     let found = Plain.arrivals(&rt, rt.alloc(), &system, 0, period, &reduced)?;
     assert_eq!(rt; found.list(), arrivals.as_slice());
+    let lists = Plain.arrivals_each(&rt, rt.alloc(), &system, &[0, 0], period, &reduced)?;
+    assert_eq!(rt; lists.len(), 2);
+    for list in &lists {
+        assert_eq!(rt; list.list(), arrivals.as_slice());
+    }
     Ok(())
 }
 

@@ -1,7 +1,10 @@
 // Rounds of workers, and the arrivals that they find.
 ghost use Rattle.std.specs.Prelude.{◌≡◌, ◌+◌, ◌<◌, ◌≤◌, pos, All, IfOk, OnOk, IsTrue, length};
+ghost use Rattle.std.specs.List.{AllZip};
+ghost use Rattle.cyc_num.specs.Ratio.{IsSmallRatio};
 ghost use Rattle.cyc_num.specs.Within.{LiesWithin};
-ghost use Rattle.rule_system.specs.Weights.{time_of};
+ghost use Rattle.rule_system.specs.Weights.{HasNoGain, time_of};
+ghost use Rattle.potentials.specs.Makers.{AreArrivalsFrom, IsRootOf};
 ghost use Rattle.arrival_words.specs.About.{time_limit};
 ghost use Rattle.arrival_words.specs.Known.{Belongs, NothingSinks};
 ghost use Rattle.relax_rounds.specs.Rounds.{AreArrivalsIn, AreAttainedIn, IsFeasibleIn, IsRoundIn};
@@ -14,6 +17,7 @@ use cyc_num::Ratio;
 use cyc_port::Gate;
 use potentials::search::Reduced;
 use potentials::{ArrivalMaker, Times, feasible, first_weights_by};
+use rayon::prelude::*;
 use rule_system::System;
 use rule_system::laws::{
     attained_bounds_are_arrivals, feasible_numbers_bound_walks, round_covers_one_more,
@@ -166,6 +170,26 @@ impl<'g, G: Gate + Sync> Rounds<'g, G> {
     }
 }
 
+/// The arrivals from a root, in rounds that begin with first weights.
+fn arrivals_by<R: Threads + Sync>(
+    rounds: &Rounds<'_, &(dyn Gate + Sync)>,
+    rt: &R,
+    alloc: Global,
+    system: &System,
+    root: u32,
+    period: Ratio,
+    reduced: &Reduced,
+) -> Result<Times, AllocError>
+    requires ratio { IsSmallRatio period.top period.bottom }
+    requires root { IsRootOf system.now root }
+    requires no_gain { HasNoGain period.top period.bottom system.now.rules }
+    ensures { IfOk result (AreArrivalsFrom period.top period.bottom system.now root) }
+{
+    let start = first_weights_by(alloc, system, root, period, reduced)?;
+    let (words, mut seat) = Words::open(alloc, system, root, period, start.list())?;
+    rounds.arrivals_from::<R, Brand>(rt, alloc, &words, &mut seat, Blank::new(1))
+}
+
 // In a trait's method the bounds of its `impl` hold in the calling thread alone, so workers could not pass a gate of a type parameter.
 // They can pass a `dyn` gate.
 impl<'g, 'd> ArrivalMaker for Rounds<'g, &'d (dyn Gate + Sync)> {
@@ -178,8 +202,44 @@ impl<'g, 'd> ArrivalMaker for Rounds<'g, &'d (dyn Gate + Sync)> {
         period: Ratio,
         reduced: &Reduced,
     ) -> Result<Times, AllocError> {
-        let start = first_weights_by(alloc, system, root, period, reduced)?;
-        let (words, mut seat) = Words::open(alloc, system, root, period, start.list())?;
-        self.arrivals_from::<R, Brand>(rt, alloc, &words, &mut seat, Blank::new(1))
+        arrivals_by(self, rt, alloc, system, root, period, reduced)
     }
+
+    fn arrivals_each<R: Threads + Sync>(
+        &self,
+        rt: &R,
+        alloc: Global,
+        system: &System,
+        roots: &[u32],
+        period: Ratio,
+        reduced: &Reduced,
+    ) -> Result<Vec<Times>, AllocError> {
+        each_by(self, rt, alloc, system, roots, period, reduced)
+    }
+}
+
+/// The arrivals from each of the roots, in their order, on as many threads as there are processors.
+fn each_by<R: Threads + Sync>(
+    rounds: &Rounds<'_, &(dyn Gate + Sync)>,
+    rt: &R,
+    alloc: Global,
+    system: &System,
+    roots: &[u32],
+    period: Ratio,
+    reduced: &Reduced,
+) -> Result<Vec<Times>, AllocError>
+    requires ratio { IsSmallRatio period.top period.bottom }
+    requires roots { All (IsRootOf system.now) roots.now }
+    requires no_gain { HasNoGain period.top period.bottom system.now.rules }
+    ensures { IfOk result (λ lists. AllZip (AreArrivalsFrom period.top period.bottom system.now) roots.now lists.items) }
+{
+    roots
+        .par_iter()
+        .map(
+            |root: &u32| -> Result<Times, AllocError>
+                requires { IsSmallRatio period.top period.bottom × IsRootOf system.now root.now × HasNoGain period.top period.bottom system.now.rules }
+                ensures { IfOk result (AreArrivalsFrom period.top period.bottom system.entry.now root.now) }
+            { arrivals_by(rounds, rt, alloc, system, *root, period, reduced) },
+        )
+        .collect(rt, alloc)?
 }

@@ -83,6 +83,27 @@ fn ring_arrivals<R: Threads + Sync>(
 }
 
 #[test]
+fn several_roots_are_answered_in_their_order(rt: HostRuntime) -> Result<(), Fail> {
+    ring_has_its_period();
+    let alloc = rt.alloc();
+    let system = ring(alloc)?;
+    let period = Ratio::of(66, 1);
+    let reduced = Reduced::at(alloc, &system, period)?;
+    let gate: &(dyn Gate + Sync) = &OpenGate;
+    let rounds = Rounds {
+        workers: 2,
+        gate: &gate,
+    };
+    let lists = rounds.arrivals_each(&rt, alloc, &system, &[0, 3, 0], period, &reduced)?;
+    let mut firsts = Vec::new(alloc);
+    for list in &lists {
+        firsts.push(list.list().first().copied())?;
+    }
+    assert_eq!(rt; firsts.as_slice(), [Some(0), Some(-10), Some(0)].as_slice());
+    Ok(())
+}
+
+#[test]
 fn any_number_of_workers_finds_the_arrivals(rt: HostRuntime) -> Result<(), Fail> {
     let times = [0, 32, 44, 10, 22, 54];
     assert_eq!(rt;
