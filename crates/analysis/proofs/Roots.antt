@@ -85,17 +85,20 @@ filled_more top bottom events rs forks root roots count arrivals before after f 
 
 -- where each fork's root had its turn, all are slacks
 pub filled_all : (top bottom : ℕ) (rs : List Rule) (forks : List ForkOf) (root : ℕ) (roots : List ℕ) (slacks : List ℤ) → ((n : ℕ) → n < length forks → IsMade root roots (fork_at forks n).root) → AreSlacksOf top bottom rs forks root roots (length roots) slacks → AreSlacks top bottom rs forks slacks
-filled_all top bottom rs forks root roots slacks made f = (f.counts, λ n inside. elim (made n inside) [
-  | inl e ↦ f.of_root n inside e
-  | inr k ↦ f.of_each n k.0 inside k.1 k.2
-])
+filled_all top bottom rs forks root roots slacks made f = (
+  f.counts,
+  λ n inside. elim (made n inside) [
+    | inl e ↦ f.of_root n inside e
+    | inr k ↦ f.of_each n k.0 inside k.1 k.2
+  ],
+)
 
 -- each root is an event of the system, from which it is connected
 pub roots_within : (system : EventRules) (forks : List ForkOf) (root : ℕ) (roots : List ℕ) → All (IsFork system.events) forks → IsConnected system.events system.rules root → All (HasRoot forks) roots → All (IsRootOf system) roots
 roots_within system forks root roots all connected theirs = λ i d inside.
-  let (n, low, is) = theirs i d inside in
-  let near : slice_index_or roots i d < system.events = subst (λ (e : ℕ). e < system.events) is (all n no_fork low).0 in
-  (near, connected_from system.events system.rules root (slice_index_or roots i d) connected near)
+    let (n, low, is) = theirs i d inside in
+    let near : slice_index_or roots i d < system.events = subst (λ (e : ℕ). e < system.events) is (all n no_fork low).0 in
+    (near, connected_from system.events system.rules root (slice_index_or roots i d) connected near)
 
 -- ---- the different roots
 
