@@ -2,7 +2,7 @@
 ghost use Rattle.std.specs.Prelude.{◌≡◌, ◌<◌, ◌≤◌, ◌+ℤ◌, ℕ, All, IfOk, length};
 ghost use Rattle.std.specs.Ordering.{int_eq};
 ghost use Rattle.cyc_num.specs.Ratio.{IsSmallRatio};
-ghost use Rattle.cyc_num.specs.Within.{LiesWithin};
+ghost use Rattle.cyc_num.specs.Within.{LiesWithin, time_limit};
 ghost use Rattle.rule_system.specs.FirstCycle.{kept_by};
 ghost use Rattle.rule_system.specs.Bounds.{IsRule};
 ghost use Rattle.rule_system.specs.CriticalCycle.{IsCriticalCycle};
@@ -28,7 +28,7 @@ pub fn critical_cycle(
     requires ratio { IsSmallRatio period.top period.bottom }
     requires period { IsPeriod system.now.rules period.top period.bottom }
     requires arrivals { AreArrivals period.top period.bottom system.now.events system.now.rules root arrivals.now }
-    requires within { All (LiesWithin 17000000000000000) arrivals.now }
+    requires within { All (LiesWithin time_limit) arrivals.now }
     ensures { IfOk result (λ cycle. IsCriticalCycle period.top period.bottom system.now.events system.now.rules root cycle) }
 {
     tight_cycles_have_a_first();
@@ -48,7 +48,7 @@ fn tight_flags(
 ) -> Result<Vec<bool>, AllocError>
     requires ratio { IsSmallRatio period.top period.bottom }
     requires count { length arrivals.now ≡ system.now.events }
-    requires within { All (LiesWithin 17000000000000000) arrivals.now }
+    requires within { All (LiesWithin time_limit) arrivals.now }
     ensures count { IfOk result (λ tight. length tight.items ≡ length system.now.rules) }
     ensures tight { IfOk result (λ tight. (n : ℕ) → n < length system.now.rules → kept_by tight.items n ≡ is_tight period.top period.bottom system.now.rules arrivals.now n) }
     ensures ends { EndsBelow system.now.events system.now.rules }
@@ -68,7 +68,7 @@ fn tight_flags(
 fn is_tight_rule(rule: Rule, top: u64, bottom: u64, arrivals: &[i64]) -> bool
     requires ratio { IsSmallRatio top bottom }
     requires rule { IsRule (length arrivals.now) rule }
-    requires within { All (LiesWithin 17000000000000000) arrivals.now }
+    requires within { All (LiesWithin time_limit) arrivals.now }
     ensures { result ≡ int_eq (time_of arrivals.now rule.source +ℤ rule_weight top bottom rule) (time_of arrivals.now rule.target) }
 {
     offered(rule, top, bottom, arrivals) == arrivals[rule.target as usize]

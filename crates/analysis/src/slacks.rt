@@ -2,7 +2,7 @@
 ghost use Rattle.std.specs.Prelude.{◌≡◌, ◌<◌, ◌≤◌, ℕ, All, IfOk, length, true};
 ghost use Rattle.std.specs.List.{AllZip};
 ghost use Rattle.cyc_num.specs.Ratio.{IsSmallRatio};
-ghost use Rattle.cyc_num.specs.Within.{LiesWithin};
+ghost use Rattle.cyc_num.specs.Within.{LiesWithin, time_limit};
 ghost use Rattle.rule_system.specs.Walks.{IsConnected};
 ghost use Rattle.rule_system.specs.Weights.{AreArrivals, HasNoGain, time_of};
 ghost use Rattle.potentials.specs.Makers.{AreArrivalsFrom};
@@ -33,7 +33,7 @@ pub fn slacks_of<R: Threads + Sync, M: ArrivalMaker>(
     requires connected { IsConnected system.now.events system.now.rules root }
     requires no_gain { HasNoGain period.top period.bottom system.now.rules }
     requires arrivals { AreArrivals period.top period.bottom system.now.events system.now.rules root arrivals.now }
-    requires within { All (LiesWithin 17000000000000000) arrivals.now }
+    requires within { All (LiesWithin time_limit) arrivals.now }
     requires forks { All (IsFork system.now.events) forks.now }
     ensures { IfOk result (λ slacks. AreSlacks period.top period.bottom system.now.rules forks.now slacks) }
 {
@@ -127,7 +127,7 @@ fn fill_each(
 fn fill(forks: &[ForkOf], root: u32, period: Ratio, arrivals: &[i64], slacks: &mut [i64])
     requires ratio { IsSmallRatio period.top period.bottom }
     requires forks { All (IsFork (length arrivals.now)) forks.now }
-    requires within { All (LiesWithin 17000000000000000) arrivals.now }
+    requires within { All (LiesWithin time_limit) arrivals.now }
     requires count { length slacks.old ≡ length forks.now }
     ensures count { length slacks.new ≡ length forks.now }
     ensures slacks { (n : ℕ) → n < length forks.now → time_of slacks.new n ≡ slack_or period.top period.bottom root arrivals.now (fork_at forks.now n) (time_of slacks.old n) }

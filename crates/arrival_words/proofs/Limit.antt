@@ -6,7 +6,8 @@ use Rattle.rule_system.specs.Rules.{delay_sum, offset_sum}
 use Rattle.rule_system.specs.Weights.{weight, ShortWalkAtLeast}
 use Rattle.rule_system.proofs.Sums.{walk_sums, ends_below}
 use Rattle.rule_system.proofs.Erase.{short_walk}
-use Rattle.arrival_words.specs.About.{About, IsSound, IsReached, time_limit}
+use Rattle.cyc_num.specs.Within.{time_limit}
+use Rattle.arrival_words.specs.About.{About, IsSound, IsReached}
 
 most : (long short : ℤ) (up down : ℕ) → long ≤ℤ short → short ≡ pos up -ℤ pos down → up ≤ 17000000000000000 → long ≤ℤ pos 17000000000000000
 most long short up down h e k = omega (arith, ints)

@@ -1,7 +1,7 @@
 -- What shared words are about: a system, a root and a period.
 use Rattle.std.specs.Prelude.{◌≡◌, ℕ, ◌<◌, ℤ, List}
 use Rattle.cyc_num.specs.Ratio.{Fraction, IsSmallRatio}
-use Rattle.cyc_num.specs.Within.{LiesWithin}
+use Rattle.cyc_num.specs.Within.{LiesWithin, time_limit}
 use Rattle.rule_system.specs.declared.rules.Rule.{Rule}
 use Rattle.rule_system.specs.Bounds.{EventRules, IsSystem}
 use Rattle.rule_system.specs.Walks.{IsWalk}
@@ -28,10 +28,6 @@ about system root period = record {
 -- the system of it
 abbrev pub system_of : About → EventRules
 system_of a = record { events = a.events; rules = a.rules }
-
--- how far a number of an event may lie from 0
-abbrev pub time_limit : ℕ
-time_limit = 17000000000000000
 
 -- a system, a root among its events, a period within the limits, and no cycle of positive weight
 pub record IsSound (a : About) : Type 0 where

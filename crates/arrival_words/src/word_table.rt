@@ -1,11 +1,11 @@
 // The table of the words, and the calls on it.
 ghost use Rattle.std.specs.Prelude.{◌≡◌, ℕ, suc, ◌+◌, ◌<◌, ◌≤◌, ℤ, pos, ◌+ℤ◌, ◌-ℤ◌, ◌≤ℤ◌, max, length, All, IfOk, slice_index, slice_set};
 ghost use Rattle.cyc_num.specs.Ratio.{IsSmallRatio};
-ghost use Rattle.cyc_num.specs.Within.{LiesWithin};
+ghost use Rattle.cyc_num.specs.Within.{LiesWithin, time_limit};
 ghost use Rattle.rule_system.specs.Bounds.{IsRule};
 ghost use Rattle.rule_system.specs.Rules.{rule_at};
 ghost use Rattle.rule_system.specs.Weights.{rule_weight, time_of, AreAttained, HasNoGain};
-ghost use Rattle.arrival_words.specs.About.{IsReached, about, time_limit};
+ghost use Rattle.arrival_words.specs.About.{IsReached, about};
 ghost use Rattle.arrival_words.specs.Rule.{about_key};
 ghost use Rattle.arrival_words.specs.Views.{value_of, values_of};
 

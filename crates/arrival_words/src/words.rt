@@ -1,9 +1,9 @@
 // The words, and the calls of threads on them.
 ghost use Rattle.std.specs.Prelude.{◌≡◌, ℕ, ◌<◌, ◌≤◌, ℤ, pos, ◌≤ℤ◌, length, All, IfOk, slice_set};
 ghost use Rattle.cyc_num.specs.Ratio.{IsSmallRatio};
-ghost use Rattle.cyc_num.specs.Within.{LiesWithin};
+ghost use Rattle.cyc_num.specs.Within.{LiesWithin, time_limit};
 ghost use Rattle.rule_system.specs.Weights.{time_of, AreAttained, HasNoGain};
-ghost use Rattle.arrival_words.specs.About.{IsWeightOfWalk, about, system_of, time_limit};
+ghost use Rattle.arrival_words.specs.About.{IsWeightOfWalk, about, system_of};
 ghost use Rattle.arrival_words.specs.Views.{maxima};
 ghost use Rattle.arrival_words.specs.Known.{Belongs, Relaxes, NothingSinks};
 

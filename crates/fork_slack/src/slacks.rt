@@ -1,7 +1,7 @@
 //! The slack of a fork.
 ghost use Rattle.std.specs.Prelude.{◌≡◌, ◌*◌, ◌<◌, ◌≤◌, pos, ◌+ℤ◌, All, length};
 ghost use Rattle.cyc_num.specs.Ratio.{IsSmallRatio};
-ghost use Rattle.cyc_num.specs.Within.{LiesWithin};
+ghost use Rattle.cyc_num.specs.Within.{LiesWithin, time_limit};
 ghost use Rattle.fork_slack.specs.Slack.{HasBranches, arrival_of, slack_of};
 
 use cyc_num::Ratio;
@@ -26,7 +26,7 @@ pub struct ForkOf {
 pub fn slack(fork: &ForkOf, arrivals: &[i64], period: Ratio) -> i64
     requires ratio { IsSmallRatio period.top period.bottom }
     requires fork { HasBranches (length arrivals.now) fork.now }
-    requires within { All (LiesWithin 17000000000000000) arrivals.now }
+    requires within { All (LiesWithin time_limit) arrivals.now }
     ensures { result ≡ slack_of period.top period.bottom fork.now arrivals.now }
 {
     let slow = later(arrivals, fork.slow, period.top(), fork.offset);
@@ -37,7 +37,7 @@ pub fn slack(fork: &ForkOf, arrivals: &[i64], period: Ratio) -> i64
 /// The arrival of an event, later by a product.
 fn later(arrivals: &[i64], event: u32, factor: u64, count: u32) -> i64
     requires event { event < length arrivals.now }
-    requires arrivals { All (LiesWithin 17000000000000000) arrivals.now }
+    requires arrivals { All (LiesWithin time_limit) arrivals.now }
     requires product { factor * count ≤ 491520000000 }
     ensures value { result ≡ arrival_of arrivals.now event +ℤ pos (factor * count) }
     ensures within { LiesWithin 18000000000000000 result }

@@ -1,6 +1,6 @@
 -- What makers of arrivals are asked for, and what they give.
 use Rattle.std.specs.Prelude.{◌≡◌, ℕ, ◌<◌, ℤ, All, List}
-use Rattle.cyc_num.specs.Within.{LiesWithin}
+use Rattle.cyc_num.specs.Within.{LiesWithin, time_limit}
 use Rattle.rule_system.specs.Bounds.{EventRules}
 use Rattle.rule_system.specs.Walks.{IsConnected}
 use Rattle.rule_system.specs.Weights.{AreArrivals}
@@ -12,4 +12,4 @@ IsRootOf system root = (root < system.events) × IsConnected system.events syste
 -- the arrivals from a root, each within the limit
 abbrev pub AreArrivalsFrom : ℕ → ℕ → EventRules → ℕ → List ℤ → Type 0
 AreArrivalsFrom top bottom system root times =
-    AreArrivals top bottom system.events system.rules root times × All (LiesWithin 17000000000000000) times
+    AreArrivals top bottom system.events system.rules root times × All (LiesWithin time_limit) times

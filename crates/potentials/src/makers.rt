@@ -5,7 +5,7 @@ ghost use Rattle.std.specs.Thread.{IsSync};
 ghost use Rattle.cyc_num.specs.Ratio.{IsSmallRatio};
 ghost use Rattle.rule_system.specs.Walks.{IsConnected};
 ghost use Rattle.rule_system.specs.Weights.{HasNoGain, AreArrivals};
-ghost use Rattle.cyc_num.specs.Within.{LiesWithin};
+ghost use Rattle.cyc_num.specs.Within.{LiesWithin, time_limit};
 ghost use Rattle.potentials.specs.Makers.{AreArrivalsFrom, IsRootOf};
 
 use crate::rounds::settle;
@@ -42,7 +42,7 @@ pub trait ArrivalMaker {
         requires connected { IsConnected system.now.events system.now.rules root }
         requires no_gain { HasNoGain period.top period.bottom system.now.rules }
         ensures arrivals { IfOk result (λ x. AreArrivals period.top period.bottom system.now.events system.now.rules root x) }
-        ensures within { IfOk result (λ x. All (LiesWithin 17000000000000000) x) };
+        ensures within { IfOk result (λ x. All (LiesWithin time_limit) x) };
 
     /// The arrivals from each of the roots, in their order: for each root those that `arrivals` makes of it. Roots may be shared out to as
     /// many threads as there are processors.

@@ -4,7 +4,7 @@ ghost use Rattle.cyc_num.specs.Ratio.{IsSmallRatio};
 ghost use Rattle.rule_system.specs.Weights.{time_of, HasNoGain, AreAttained, AreArrivals, IsRound};
 ghost use Rattle.rule_system.specs.Bounds.{IsRule};
 ghost use Rattle.potentials.specs.Raised.{raised, AreAbove, AreBelow};
-ghost use Rattle.cyc_num.specs.Within.{LiesWithin};
+ghost use Rattle.cyc_num.specs.Within.{LiesWithin, time_limit};
 ghost use Rattle.potentials.specs.Times.{ArePathWeights};
 
 use crate::checks::are_loose;
@@ -18,8 +18,8 @@ use rule_system::{Rule, System};
 fn relax(rule: Rule, top: u64, bottom: u64, times: &mut [i64])
     requires ratio { IsSmallRatio top bottom }
     requires rule { IsRule (length times.old) rule }
-    requires low { AreAbove 17000000000000000 times.old }
-    requires high { AreBelow 17000000000000000 times.old }
+    requires low { AreAbove time_limit times.old }
+    requires high { AreBelow time_limit times.old }
     ensures { times.new ≡ raised top bottom rule times.old }
 {
     let offer = offered(rule, top, bottom, times);
@@ -32,9 +32,9 @@ fn round(system: &System, root: u32, top: u64, bottom: u64, times: &mut [i64])
     requires ratio { IsSmallRatio top bottom }
     requires root { root < system.now.events }
     requires no_gain { HasNoGain top bottom system.now.rules }
-    requires low { AreAbove 17000000000000000 times.old }
+    requires low { AreAbove time_limit times.old }
     requires attained { AreAttained top bottom system.now.events system.now.rules root times.old }
-    ensures low { AreAbove 17000000000000000 times.new }
+    ensures low { AreAbove time_limit times.new }
     ensures attained { AreAttained top bottom system.now.events system.now.rules root times.new }
     ensures round { IsRound top bottom system.now.rules times.old times.new }
 {
@@ -52,7 +52,7 @@ pub fn settle(system: &System, root: u32, top: u64, bottom: u64, times: &mut [i6
     requires no_gain { HasNoGain top bottom system.now.rules }
     requires weights { ArePathWeights top bottom system.now.events system.now.rules root times.old }
     ensures arrivals { AreArrivals top bottom system.now.events system.now.rules root times.new }
-    ensures within { All (LiesWithin 17000000000000000) times.new }
+    ensures within { All (LiesWithin time_limit) times.new }
 {
     attained_feasible_numbers_are_arrivals();
     round_covers_one_more();

@@ -2,7 +2,7 @@
 ghost use Rattle.std.specs.Prelude.{◌≡◌, ◌<◌, ◌≤◌, ℕ, pos, All, IfOk};
 ghost use Rattle.cyc_num.specs.Ratio.{IsSmallRatio};
 ghost use Rattle.rule_system.specs.Weights.{time_of, AreAttained};
-ghost use Rattle.cyc_num.specs.Within.{LiesWithin};
+ghost use Rattle.cyc_num.specs.Within.{LiesWithin, time_limit};
 ghost use Rattle.potentials.specs.Times.{AllReachable, ArePathWeights};
 
 use crate::search::Reduced;
@@ -26,7 +26,7 @@ pub fn first_weights(
     ensures weights { IfOk result (λ x. ArePathWeights period.top period.bottom system.now.events system.now.rules root x) }
     ensures attained { IfOk result (λ x. AreAttained period.top period.bottom system.now.events system.now.rules root x) }
     ensures root { IfOk result (λ x. time_of x root ≡ pos 0) }
-    ensures within { IfOk result (λ x. All (LiesWithin 17000000000000000) x) }
+    ensures within { IfOk result (λ x. All (LiesWithin time_limit) x) }
 {
     let reduced = Reduced::at(alloc, system, period)?;
     first_weights_by(alloc, system, root, period, &reduced)
@@ -47,7 +47,7 @@ pub fn first_weights_by(
     ensures weights { IfOk result (λ x. ArePathWeights period.top period.bottom system.now.events system.now.rules root x) }
     ensures attained { IfOk result (λ x. AreAttained period.top period.bottom system.now.events system.now.rules root x) }
     ensures root { IfOk result (λ x. time_of x root ≡ pos 0) }
-    ensures within { IfOk result (λ x. All (LiesWithin 17000000000000000) x) }
+    ensures within { IfOk result (λ x. All (LiesWithin time_limit) x) }
 {
     let order = reduced.rules_from(alloc, root)?;
     let weights = path_weights(alloc, system, &order, root, period.top(), period.bottom())?;
@@ -67,7 +67,7 @@ pub fn path_weights(
     requires root { root < system.now.events }
     requires reachable { AllReachable system.now.events system.now.rules root }
     ensures weights { IfOk result (λ x. ArePathWeights top bottom system.now.events system.now.rules root x.items) }
-    ensures within { IfOk result (λ x. All (LiesWithin 17000000000000000) x.items) }
+    ensures within { IfOk result (λ x. All (LiesWithin time_limit) x.items) }
 {
     let events = system.events() as usize;
     let mut times = vec![in alloc; 0; events]?;

@@ -3,7 +3,7 @@ ghost use Rattle.std.specs.Prelude.{◌≡◌, ◌<◌, ◌≤◌, ◌↔◌, �
 ghost use Rattle.cyc_num.specs.Ratio.{IsSmallRatio};
 ghost use Rattle.rule_system.specs.Rules.{source_of, target_of};
 ghost use Rattle.rule_system.specs.Bounds.{IsSystem};
-ghost use Rattle.cyc_num.specs.Within.{LiesWithin};
+ghost use Rattle.cyc_num.specs.Within.{LiesWithin, time_limit};
 ghost use Rattle.potentials.specs.Times.{AllReachable, ArePathWeights};
 ghost use Rattle.potentials.specs.Trees.{IsTree, IsReached, StaysReached};
 
@@ -133,7 +133,7 @@ pub fn grow(
     requires zeros { times.old ≡ replicate system.now.events (pos 0) }
     requires unreached { reached.old ≡ replicate system.now.events false }
     ensures weights { ArePathWeights top bottom system.now.events system.now.rules root times.new }
-    ensures within { All (LiesWithin 17000000000000000) times.new }
+    ensures within { All (LiesWithin time_limit) times.new }
 {
     reached[root as usize] = true;
     follow(system, order, root, top, bottom, times, reached);

@@ -4,9 +4,9 @@ use Rattle.std.proofs.lemmas.Int.{ints}
 use Rattle.std.proofs.lemmas.List.{same_lists, get_or_default}
 use mathlib.Core.Logic.{dite}
 use native.Mathlib.Decide.{ℕ_discrete}
-use Rattle.cyc_num.specs.Within.{LiesWithin}
+use Rattle.cyc_num.specs.Within.{LiesWithin, time_limit}
 use Rattle.rule_system.specs.Weights.{time_of}
-use Rattle.arrival_words.specs.About.{About, IsWeightOfWalk, time_limit}
+use Rattle.arrival_words.specs.About.{About, IsWeightOfWalk}
 use Rattle.arrival_words.specs.Known.{NothingSinks}
 use Rattle.relax_rounds.specs.Rounds.{AreAttainedIn}
 

@@ -1,11 +1,11 @@
 -- What stands after some rounds.
 use Rattle.std.proofs.Common.{◌≡◌, ℕ, ◌+◌, ◌<◌, ℤ, pos, ◌+ℤ◌, ◌≤ℤ◌, List, All, length, subst, sym, arith}
 use Rattle.std.proofs.lemmas.Int.{ints}
-use Rattle.cyc_num.specs.Within.{LiesWithin}
+use Rattle.cyc_num.specs.Within.{LiesWithin, time_limit}
 use Rattle.rule_system.specs.Bounds.{EventRules}
 use Rattle.rule_system.specs.Walks.{IsWalk, EndsBelow}
 use Rattle.rule_system.specs.Weights.{weight, time_of, Covers, IsFeasible}
-use Rattle.arrival_words.specs.About.{About, system_of, time_limit}
+use Rattle.arrival_words.specs.About.{About, system_of}
 use Rattle.arrival_words.specs.Known.{NothingSinks}
 use Rattle.relax_rounds.specs.Rounds.{AreAttainedIn, IsFeasibleIn}
 use Rattle.relax_rounds.proofs.Joining.{sinks-refl, sinks-trans}

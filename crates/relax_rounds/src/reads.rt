@@ -1,7 +1,6 @@
 // All words read, one after the other.
 ghost use Rattle.std.specs.Prelude.{◌≡◌, All, length};
-ghost use Rattle.cyc_num.specs.Within.{LiesWithin};
-ghost use Rattle.arrival_words.specs.About.{time_limit};
+ghost use Rattle.cyc_num.specs.Within.{LiesWithin, time_limit};
 ghost use Rattle.arrival_words.specs.Known.{Belongs, NothingSinks};
 ghost use Rattle.relax_rounds.specs.Rounds.{AreAttainedIn};
 

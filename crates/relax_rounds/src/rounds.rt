@@ -2,10 +2,9 @@
 ghost use Rattle.std.specs.Prelude.{◌≡◌, ◌+◌, ◌<◌, ◌≤◌, pos, All, IfOk, OnOk, IsTrue, length};
 ghost use Rattle.std.specs.List.{AllZip};
 ghost use Rattle.cyc_num.specs.Ratio.{IsSmallRatio};
-ghost use Rattle.cyc_num.specs.Within.{LiesWithin};
+ghost use Rattle.cyc_num.specs.Within.{LiesWithin, time_limit};
 ghost use Rattle.rule_system.specs.Weights.{HasNoGain, time_of};
 ghost use Rattle.potentials.specs.Makers.{AreArrivalsFrom, IsRootOf};
-ghost use Rattle.arrival_words.specs.About.{time_limit};
 ghost use Rattle.arrival_words.specs.Known.{Belongs, NothingSinks};
 ghost use Rattle.relax_rounds.specs.Rounds.{AreArrivalsIn, AreAttainedIn, IsFeasibleIn, IsRoundIn};
 
