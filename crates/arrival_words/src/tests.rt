@@ -1,12 +1,11 @@
 // Words over a system of one net, and over a ring of three inverters.
 ghost use Rattle.std.specs.Prelude.{◌≡◌, IfOk};
-ghost use Rattle.rule_system.specs.InverterRing.{inverter_ring};
 ghost use Rattle.rule_system.specs.Weights.{AreAttained, HasNoGain};
 ghost use Rattle.arrival_words.specs.Samples.{one_net, one_net_start};
 
 use crate::Words;
 use cyc_num::Ratio;
-use rule_system::inverter_ring::{ring_has_its_arrivals, ring_has_its_period};
+use rule_system::inverter_ring::{ring_has_its_arrivals, ring_has_its_period, ring_system};
 use rule_system::{Rule, System};
 use std::alloc::{AllocError, Global};
 use std::test::Fail;
@@ -39,56 +38,10 @@ const ONE_NET: [Rule; 4] = [
     },
 ];
 
-// A ring of three inverters, its events A+ A- B+ B- C+ C-.
-const INVERTER_RING: [Rule; 6] = [
-    Rule {
-        source: 1,
-        target: 2,
-        delay: 12,
-        offset: 0,
-    },
-    Rule {
-        source: 0,
-        target: 3,
-        delay: 10,
-        offset: 0,
-    },
-    Rule {
-        source: 3,
-        target: 4,
-        delay: 12,
-        offset: 0,
-    },
-    Rule {
-        source: 2,
-        target: 5,
-        delay: 10,
-        offset: 0,
-    },
-    Rule {
-        source: 5,
-        target: 0,
-        delay: 12,
-        offset: 1,
-    },
-    Rule {
-        source: 4,
-        target: 1,
-        delay: 10,
-        offset: 0,
-    },
-];
-
 fn one_net_system(alloc: Global) -> Result<System, AllocError>
     ensures { IfOk result (λ s. s ≡ record { events = 2; rules = one_net }) }
 {
     System::build(alloc, 2, Vec::from_slice(alloc, &ONE_NET)?)
-}
-
-fn ring_system(alloc: Global) -> Result<System, AllocError>
-    ensures { IfOk result (λ s. s ≡ record { events = 6; rules = inverter_ring }) }
-{
-    System::build(alloc, 6, Vec::from_slice(alloc, &INVERTER_RING)?)
 }
 
 // At 12/1 no cycle of the one net gains, and its start values are weights of walks.

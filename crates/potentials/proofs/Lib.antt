@@ -1,3 +1,4 @@
 pub mod Collected
+pub mod Rooted
 mod Growth
 mod Steps

@@ -1,65 +1,14 @@
 //! Arrivals of the inverter ring, and first numbers.
-ghost use Rattle.std.specs.Prelude.{◌≡◌, IfOk};
-ghost use Rattle.rule_system.specs.InverterRing.{inverter_ring};
-
 use crate::search::Reduced;
 use crate::{ArrivalMaker, Plain, Times, feasible, first_weights};
 use cyc_num::Ratio;
-use rule_system::inverter_ring::ring_has_its_period;
-use rule_system::{Rule, System};
-use std::alloc::{AllocError, Global};
+use rule_system::inverter_ring::{ring_has_its_period, ring_system};
 use std::test::Fail;
-
-/// The rules of a ring of three inverters, its events A+ A- B+ B- C+ C-.
-const INVERTER_RING: [Rule; 6] = [
-    Rule {
-        source: 1,
-        target: 2,
-        delay: 12,
-        offset: 0,
-    },
-    Rule {
-        source: 0,
-        target: 3,
-        delay: 10,
-        offset: 0,
-    },
-    Rule {
-        source: 3,
-        target: 4,
-        delay: 12,
-        offset: 0,
-    },
-    Rule {
-        source: 2,
-        target: 5,
-        delay: 10,
-        offset: 0,
-    },
-    Rule {
-        source: 5,
-        target: 0,
-        delay: 12,
-        offset: 1,
-    },
-    Rule {
-        source: 4,
-        target: 1,
-        delay: 10,
-        offset: 0,
-    },
-];
-
-fn ring(alloc: Global) -> Result<System, AllocError>
-    ensures { IfOk result (λ s. s ≡ record { events = 6; rules = inverter_ring }) }
-{
-    System::build(alloc, 6, Vec::from_slice(alloc, &INVERTER_RING)?)
-}
 
 #[test]
 fn arrivals_of_the_ring(rt: HostRuntime) -> Result<(), Fail> {
     ring_has_its_period();
-    let system = ring(rt.alloc())?;
+    let system = ring_system(rt.alloc())?;
     let period = Ratio::of(66, 1);
     let arrivals = [0, 32, 44, 10, 22, 54];
     assert!(rt; feasible(&system, period, &arrivals));

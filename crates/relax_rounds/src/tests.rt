@@ -1,65 +1,17 @@
 // Rounds of workers over a ring of three inverters.
-ghost use Rattle.std.specs.Prelude.{◌≡◌, ◌<◌, ◌≤◌, IfOk};
-ghost use Rattle.rule_system.specs.InverterRing.{inverter_ring};
+ghost use Rattle.std.specs.Prelude.{◌<◌, ◌≤◌};
 
 use crate::Rounds;
 use cyc_num::Ratio;
 use cyc_port::{Gate, OpenGate};
 use potentials::search::Reduced;
 use potentials::{ArrivalMaker, Times};
-use rule_system::inverter_ring::ring_has_its_period;
-use rule_system::{Rule, System};
+use rule_system::inverter_ring::{ring_has_its_period, ring_system};
 use std::alloc::{AllocError, Global};
 use std::hint;
 use std::sync::atomic::{AtomicU64, Ordering};
 use std::test::Fail;
 use std::thread::Threads;
-
-// A ring of three inverters, its events A+ A- B+ B- C+ C-.
-const INVERTER_RING: [Rule; 6] = [
-    Rule {
-        source: 1,
-        target: 2,
-        delay: 12,
-        offset: 0,
-    },
-    Rule {
-        source: 0,
-        target: 3,
-        delay: 10,
-        offset: 0,
-    },
-    Rule {
-        source: 3,
-        target: 4,
-        delay: 12,
-        offset: 0,
-    },
-    Rule {
-        source: 2,
-        target: 5,
-        delay: 10,
-        offset: 0,
-    },
-    Rule {
-        source: 5,
-        target: 0,
-        delay: 12,
-        offset: 1,
-    },
-    Rule {
-        source: 4,
-        target: 1,
-        delay: 10,
-        offset: 0,
-    },
-];
-
-fn ring(alloc: Global) -> Result<System, AllocError>
-    ensures { IfOk result (λ s. s ≡ record { events = 6; rules = inverter_ring }) }
-{
-    System::build(alloc, 6, Vec::from_slice(alloc, &INVERTER_RING)?)
-}
 
 // The ring's arrivals, found by so many workers.
 fn ring_arrivals<R: Threads + Sync>(
@@ -72,7 +24,7 @@ fn ring_arrivals<R: Threads + Sync>(
     requires few { workers ≤ 64 }
 {
     ring_has_its_period();
-    let system = ring(alloc)?;
+    let system = ring_system(alloc)?;
     let period = Ratio::of(66, 1);
     let reduced = Reduced::at(alloc, &system, period)?;
     let rounds = Rounds {
@@ -86,7 +38,7 @@ fn ring_arrivals<R: Threads + Sync>(
 fn several_roots_are_answered_each(rt: HostRuntime) -> Result<(), Fail> {
     ring_has_its_period();
     let alloc = rt.alloc();
-    let system = ring(alloc)?;
+    let system = ring_system(alloc)?;
     let period = Ratio::of(66, 1);
     let reduced = Reduced::at(alloc, &system, period)?;
     let gate: &(dyn Gate + Sync) = &OpenGate;

@@ -1,47 +1,8 @@
 //! The inverter ring, its lists of rules, and the plain programs on it.
-use crate::inverter_ring::ring_has_its_period;
+use crate::inverter_ring::{INVERTER_RING, ring_has_its_period, ring_system};
 use crate::orders::order;
 use crate::{Cycle, Rule, System, plain};
 use std::test::Fail;
-
-const INVERTER_RING: [Rule; 6] = [
-    Rule {
-        source: 1,
-        target: 2,
-        delay: 12,
-        offset: 0,
-    },
-    Rule {
-        source: 0,
-        target: 3,
-        delay: 10,
-        offset: 0,
-    },
-    Rule {
-        source: 3,
-        target: 4,
-        delay: 12,
-        offset: 0,
-    },
-    Rule {
-        source: 2,
-        target: 5,
-        delay: 10,
-        offset: 0,
-    },
-    Rule {
-        source: 5,
-        target: 0,
-        delay: 12,
-        offset: 1,
-    },
-    Rule {
-        source: 4,
-        target: 1,
-        delay: 10,
-        offset: 0,
-    },
-];
 
 /// Two events with a rule from each to each.
 const BOTH_WAYS: [Rule; 4] = [
@@ -95,7 +56,7 @@ const DEAD_CYCLE: [Rule; 3] = [
 
 #[test]
 fn builds_the_ring(rt: HostRuntime) -> Result<(), Fail> {
-    let system = System::build(rt.alloc(), 6, Vec::from_slice(rt.alloc(), &INVERTER_RING)?)?;
+    let system = ring_system(rt.alloc())?;
     assert_eq!(rt; system.events(), 6);
     assert_eq!(rt; system.rules(), INVERTER_RING.as_slice());
     assert_eq!(rt; system.into_event(0), [4].as_slice());
@@ -159,7 +120,7 @@ fn orders_events(rt: HostRuntime) -> Result<(), Fail> {
 #[test]
 fn finds_the_ring_plainly(rt: HostRuntime) -> Result<(), Fail> {
     ring_has_its_period();
-    let system = System::build(rt.alloc(), 6, Vec::from_slice(rt.alloc(), &INVERTER_RING)?)?;
+    let system = ring_system(rt.alloc())?;
     assert!(rt; plain::is_period(66, 1, &system));
     let times = plain::arrivals(rt.alloc(), 66, 1, &system, 0)?;
     assert_eq!(rt; times.as_slice(), [0, 32, 44, 10, 22, 54].as_slice());
