@@ -171,8 +171,9 @@ impl ArrivalMaker for Counting {
         period: Ratio,
         reduced: &Reduced,
     ) -> Result<Vec<Times>, AllocError> {
-        self.calls
-            .set(self.calls.get().saturating_add(roots.len() as u32));
+        'roots: for _ in roots {
+            self.calls.set(self.calls.get().saturating_add(1));
+        }
         Plain.arrivals_each(rt, alloc, system, roots, period, reduced)
     }
 }
