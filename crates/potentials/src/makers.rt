@@ -1,4 +1,4 @@
-//! Makers of arrivals: the trait, and the one on one thread.
+//! Makers of arrivals: the trait, and the one without rounds of workers.
 ghost use Rattle.std.specs.Prelude.{◌≡◌, ◌<◌, ◌≤◌, ℕ, pos, All, IfOk};
 ghost use Rattle.std.specs.List.{AllZip};
 ghost use Rattle.std.specs.Thread.{IsSync};
@@ -62,7 +62,7 @@ pub trait ArrivalMaker {
         ensures { IfOk result (λ lists. AllZip (AreArrivalsFrom period.top period.bottom system.now) roots.now lists.items) };
 }
 
-/// Finds arrivals on one thread: by one search of Dijkstra's over the reduced weights, which is tested.
+/// Finds the arrivals from a root on one thread: by one search of Dijkstra's over the reduced weights, which is tested.
 #[derive(Clone, Copy, Debug, Default)]
 pub struct Plain;
 
